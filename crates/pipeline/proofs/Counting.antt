@@ -1,6 +1,9 @@
 -- Blocks that are counted on both sides, and once both have ended, over plain numbers.
 use Rattle.std.proofs.Common.{◌≡◌, ◌+◌, ◌-◌, ◌^◌, ◌≤◌, ℕ, min, sym, subst, arith}
+use Rattle.block_pool.specs.PoolState.{PoolState, home}
+use Rattle.rounds.specs.Benches.{HasRoom, MayBring}
 use Rattle.rounds.specs.Handled.{FewPauses}
+use Rattle.rounds.specs.RoundsState.{BenchState}
 
 -- One side read on from `here` and is at `home`; it sent `sent`, of which `first` were out as it began, and its desk was brought blocks by
 -- tokens and of lists, none of which was there before. The other one told `told`, kept `kept` and gave `given` of what it got. Of what it
@@ -37,12 +40,21 @@ pub few_home : {asked' paused paused' first first' new new' old taken : ℕ} (as
     → old ≡ first' → taken ≡ asked' → FewPauses first' first new' new
 few_home asked a b c d e f = (omega (arith, a.0), omega (arith, a.0, a.1))
 
+pub least_then : (a b c : ℕ) → a ≤ b → b ≤ c → a ≤ c
+least_then a b c p q = omega arith
+
+pub least_equal : (a b : ℕ) → b ≡ a → a ≤ b
+least_equal a b e = omega arith
+
 -- the places of the side that works, and a budget, by other names of the same numbers
 pub least_same : (a b c : ℕ) → c ≡ b → a ≤ b → a ≤ c
 least_same a b c e h = subst (λ (x : ℕ). a ≤ x) (sym e) h
 
 pub most_same : (a b c : ℕ) → c ≡ a → a ≤ b → c ≤ b
 most_same a b c e h = subst (λ (x : ℕ). x ≤ b) (sym e) h
+
+pub room_later : (n home room room' : ℕ) → n ≤ room + home → room ≤ room' → n ≤ room' + home
+room_later n home room room' a b = omega arith
 
 pub room_back : (b i room kept home old : ℕ) → b ≡ i → b + b ≤ room + (kept + kept) → old + kept ≤ home → i + i ≤ room + (home + home)
 room_back b i room kept home old e r l = omega arith
@@ -66,7 +78,22 @@ read_none home sent brought here first now mid a b c d = omega arith
 pub read_stopped : (home sent brought here first now mid bb : ℕ) → home + sent + brought ≡ here + first + now → mid + now ≡ home + bb → mid + sent + brought ≡ here + first + bb
 read_stopped home sent brought here first now mid bb a b = omega arith
 
+-- how many packets were read, against the place up to which they were
+pub packets_more : {p' n' : ℕ} (p len n budget : ℕ) → p ≤ n → p' ≡ p + (len + 0) → n' ≡ n + budget → len ≡ budget → p' ≤ n'
+packets_more p len n budget a b c d = omega arith
+
+pub number_more : {n' : ℕ} (k n budget : ℕ) → k ≤ n + 1 → n' ≡ n + budget → 1 ≤ budget → k + 1 ≤ n' + 1
+number_more k n budget a b c = omega arith
+
 -- ---- the side that works
+
+-- a round came that fits the blocks
+pub may_bring : (n read blocks : ℕ) (bench : BenchState) (shelf : PoolState) → n ≡ read → read ≤ blocks → bench.blocks ≡ blocks → home shelf ≡ 0 → shelf.made ≡ blocks → HasRoom 0 bench → MayBring n bench shelf
+may_bring n read blocks bench shelf a b c d e f = record { out = omega arith; few = omega arith; room = omega arith }
+
+-- none came
+pub came_none : {now more kept : ℕ} (told given got none : ℕ) → told + given ≡ got + none → kept ≡ 0 → now ≡ got + more → more ≡ 0 → told + kept + given ≡ now + none
+came_none told given got none a b c d = omega arith
 
 -- a round came and was handled
 pub came_more : {shelf empty n read now : ℕ} (told given got none here given' : ℕ) → told + given ≡ got + none → shelf ≡ empty → empty ≡ 0 → here + given' ≡ shelf + n + given → n ≡ read → now ≡ got + (read + 0)

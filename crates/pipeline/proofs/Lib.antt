@@ -6,3 +6,5 @@ mod Lending
 mod Together
 -- blocks that are counted once both sides have ended
 mod Counting
+-- the same ends of rings and the same bench
+mod Kept

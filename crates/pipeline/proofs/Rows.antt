@@ -1,5 +1,5 @@
 -- Rounds that were read one after another.
-use Rattle.std.proofs.Common.{◌≡◌, ◌+◌, ◌≤◌, ℕ, List, [], ◌∷◌, ◌++◌, Option, Some, None, refl, ap, ◌∙◌, subst, length, arith, append_assoc, append-nil}
+use Rattle.std.proofs.Common.{◌≡◌, ◌+◌, ◌≤◌, ℕ, List, [], ◌∷◌, ◌++◌, Option, Some, None, refl, ap, ◌∙◌, sym, subst, length, arith, append_assoc, append-nil}
 use Rattle.pcap_io.specs.declared.place.Place.{Place}
 use Rattle.rounds.specs.declared.round.RoundRead.{RoundRead}
 use Rattle.rounds.specs.Reads.{Spot, spot, ReadRound}
@@ -35,6 +35,10 @@ weights_sent_append h [] ys = omega arith
 weights_sent_append h (None ∷ xs) ys = weights_sent_append h xs ys
 weights_sent_append h (Some p ∷ xs) ys = omega (arith, weights_sent_append h xs ys)
 
+-- what a ring has, of which some was received, is all that was sent
+pub sum_of_both : {A : Type 0} (sum : List A → ℕ) → ((xs ys : List A) → sum (xs ++ ys) ≡ sum xs + sum ys) → (got now known all sent : List A) → now ≡ got → now ++ known ≡ all → all ≡ sent → sum got + sum known ≡ sum sent
+sum_of_both sum append got now known all sent same fifo is = ap (λ l. sum l + sum known) (sym same) ∙ sym (append now known) ∙ ap sum (fifo ∙ is)
+
 -- ---- rounds
 
 pub rounds_append : (xs ys : List (Option Parcel)) → rounds_of (xs ++ ys) ≡ rounds_of xs ++ rounds_of ys
@@ -45,6 +49,9 @@ rounds_append (Some p ∷ xs) ys = ap (λ (rs : List RoundRead). p.read ∷ rs) 
 pub packets_append : (xs ys : List RoundRead) → packets_of (xs ++ ys) ≡ packets_of xs + packets_of ys
 packets_append [] ys = omega arith
 packets_append (x ∷ xs) ys = omega (arith, packets_append xs ys)
+
+pub packets_none : (n : ℕ) (xs : List (Option Parcel)) → xs ≡ [] → packets_of (rounds_of xs) ≤ n
+packets_none n xs none = subst (λ (ys : List (Option Parcel)). packets_of (rounds_of ys) ≤ n) (sym none) (omega arith)
 
 -- one round more was sent
 pub sent_more : (before sent sent1 : List (Option Parcel)) (more : List RoundRead) (p : Parcel) → rounds_of sent ≡ rounds_of before ++ more → sent1 ≡ sent ++ Some p ∷ []

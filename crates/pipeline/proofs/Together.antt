@@ -9,7 +9,8 @@ use Rattle.rounds.specs.declared.round.RoundRead.{RoundRead}
 use Rattle.rounds.specs.Handled.{Ends, FewPauses, Ran, Rests, IsReadyAtEnd, Handled}
 use Rattle.rounds.specs.Merging.{options_of}
 use Rattle.rounds.specs.Reads.{Spot, ReadRound, Reads, is_full}
-use Rattle.rounds.specs.RoundsState.{RoundsState, IntakeState}
+use Rattle.rounds.specs.Benches.{AreOne, HasRoom, IsSameBench}
+use Rattle.rounds.specs.RoundsState.{BenchState, RoundsState, IntakeState}
 use Rattle.rounds.specs.Weights.{weights_of}
 use Rattle.pipeline.specs.declared.parcel.Parcel.{Parcel}
 use Rattle.pipeline.specs.Handled.{RanOn, HandledOn, MayGoOn, IsOut, Idle, MayBeHandled, ComesBack, blocks_out, weights_out}
@@ -17,6 +18,8 @@ use Rattle.pipeline.specs.Parcels.{blocks_of, rounds_of, weights_sent}
 use Rattle.pipeline.specs.Reads.{ReadOn, IsAlone}
 use Rattle.rounds.proofs.Going.{counted_as, few_none, few_then, ready_as}
 use Rattle.rounds.proofs.Rows.{reads_least}
+use Rattle.pipeline.proofs.Counting.{least_same, most_same, room_back}
+use Rattle.pipeline.proofs.Kept.{bench_then}
 use Rattle.pipeline.proofs.Rows.{none_known, rounds_append}
 
 -- the same reading, by names of the same numbers
@@ -35,6 +38,20 @@ reads_as i i' budget budget' from from' to to' xs xs' ei eb ef et ex reads =
 abbrev front_of : RoundRead → List RoundRead → RoundRead
 front_of none [] = none
 front_of none (read ∷ rs) = read
+
+-- they may be lent again: one read on from `i` and is at `mid`, what lay between them came home, and the other one has the bench
+pub one_again : (i mid new : IntakeState) (b here last : BenchState) (kept : ℕ) → AreOne i b → IsSameBench b here → (mid.blocks ≡ i.blocks) × (mid.budget ≡ i.budget) × (mid.empties ≡ i.empties)
+    → IsSameBench here last → HasRoom kept last → new ≡ record mid { home = new.home; stock = new.stock; empties = new.empties } → mid.home + kept ≤ new.home → AreOne new last
+one_again i mid new b here last kept one p same k room f least =
+    let bench = bench_then b here last p k in
+    let blocks : last.blocks ≡ new.blocks = ap (λ (x : BenchState). x.blocks) bench ∙ one.blocks ∙ sym same.0 ∙ sym (ap (λ (x : IntakeState). x.blocks) f) in
+    let budget : new.budget ≡ i.budget = ap (λ (x : IntakeState). x.budget) f ∙ same.1 in
+    record {
+      blocks = blocks;
+      budget = ap (λ (x : BenchState). x.budget) bench ∙ one.budget ∙ sym budget;
+      few = (least_same 1 i.budget new.budget budget one.few.0, most_same i.budget 4096 new.budget budget one.few.1);
+      room = room_back last.blocks new.blocks last.room kept new.home mid.home blocks room least;
+    }
 
 -- both sides were lent, one read with this intake, and so it is once both have ended
 pub record Lent (state new : RoundsState) (intake : IntakeState) (home back : ℕ) : Type 0 where

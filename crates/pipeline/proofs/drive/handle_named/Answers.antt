@@ -1,4 +1,4 @@
-use Rattle.std.proofs.Common.{◌≡◌, ℕ, ◌∙◌, ◌+◌, ◌^◌, ◌≤◌, ◌++◌, Option, Some, List, ap, sym, subst, refl, length, arith}
+use Rattle.std.proofs.Common.{◌≡◌, ℕ, ◌∙◌, ◌+◌, ◌^◌, ◌<◌, ◌≤◌, ◌++◌, Option, Some, List, ap, sym, subst, refl, length}
 use Rattle.std.specs.Arc.{arc_value}
 use Rattle.block_pool.specs.Giving.{given_by, weights_given}
 use Rattle.block_pool.specs.Listed.{blocks_in}
@@ -10,18 +10,17 @@ use Rattle.rounds.specs.Merging.{options_of}
 use Rattle.rounds.specs.RoundsState.{BenchState, IntakeState, RoundsState}
 use Rattle.rounds.specs.Weights.{weights_of}
 use Rattle.rounds.specs.declared.round.RoundRead.{RoundRead}
-use Rattle.crossing.specs.declared.token.Token.{Token}
 use Rattle.pipeline.specs.declared.parcel.Parcel.{Parcel}
 use Rattle.pipeline.specs.Handled.{blocks_out, weights_out}
-use Rattle.block_supply.specs.Lists.{HasGiver, listed_home, weights_home, weights_listed}
+use Rattle.block_supply.specs.Lists.{HasGiver, weights_listed}
 use Rattle.crossing.specs.Tokens.{homes_of, shelved, weights_back, weights_shelved}
 use Rattle.pipeline.specs.Parcels.{blocks_of, weights_sent}
 use Rattle.rounds.specs.Reads.{reader_at}
-use Rattle.crossing.proofs.Shelves.{homes_append, shelved_none, weights_back_append}
-use Rattle.pipeline.proofs.Rows.{blocks_append, weights_sent_append}
-use Rattle.pipeline.proofs.Counting.{all_counted, all_out, all_weighed, few_home, least_same, most_same, room_back, room_home, room_left, whole_home}
+use Rattle.crossing.proofs.Shelves.{homes_append, weights_back_append}
+use Rattle.pipeline.proofs.Rows.{blocks_append, sum_of_both, weights_sent_append}
+use Rattle.pipeline.proofs.Counting.{all_counted, all_out, all_weighed, few_home, room_home, room_later, room_left, whole_home}
 use Rattle.rounds.proofs.Going.{counted_as, ready_as}
-use Rattle.pipeline.proofs.Together.{all_went, ends_as, idle_as, left_out, left_weights}
+use Rattle.pipeline.proofs.Together.{all_went, ends_as, idle_as, left_out, left_weights, one_again}
 use Rattle.pipeline.proofs.Lending.{giver_back}
 use Rattle.pipeline.proofs.drive.handle_named.Given as given
 use Rattle.pipeline.proofs.drive.handle_named.Goals as goal
@@ -32,19 +31,18 @@ counted : (g : given.Over) (c : After-ending-ended g)
     → c.run_sides-end.new.intake.home + homes_of (known_items c.slots_beside.new.self) + home c.run_sides-end.new.kept + shelved c.close-tokens.result.1.items + home c.close-tokens.result.2.left
     + given_by c.run_sides-end.new.giver + blocks_of (known_items c.ending-ended.new.from) + blocks_out c.ending-ended.result ≡ c.args.rounds.now.blocks + blocks_in c.close-tokens.result.2.pass.taken
 counted g c =
+    let a = c.slots_beside-waiting.ensures in
+    let b = c.slots_beside.ensures in
     all_counted c.run_sides-end.new.intake.home c.rounds.inside.intake.home (blocks_of (sent c.send_first.new.out)) (home c.run_sides-end.new.kept) (given_by c.run_sides-end.new.giver)
     (blocks_of (received c.run_sides-end.new.from)) (blocks_of (known_items c.ending-ended.new.from)) (blocks_out c.ending-ended.result) (homes_of (known_items c.slots_beside.new.self))
     (shelved c.new.result.shelves.items) (home c.new.result.taker.left) c.run_sides-end.ensures.read.sum c.run_sides-end.ensures.worked.each c.run_sides-end.new.supply.desk.counted c.run_sides-end.new.supply.desk.taker.counted
     (ap (λ t. homes_of (received t)) c.new.ensures.same.0 ∙ ap homes_of c.args.ways.unused.1) (ap (λ t. blocks_in t.pass.taken) c.new.ensures.same.2 ∙ ap blocks_in c.args.ways.untaken.0)
     (ap blocks_in c.args.ways.ungiven.1)
-    (sym (ap (λ (l : List (Option Parcel)). blocks_of l + blocks_of (known_items c.slots_beside-waiting.new.self)) c.slots_beside-waiting.ensures.looked.1)
-    ∙ sym (blocks_append (received c.slots_beside-waiting.new.self) (known_items c.slots_beside-waiting.new.self)) ∙ ap blocks_of c.slots_beside-waiting.ensures.fifo
-    ∙ ap blocks_of c.slots_beside-waiting.ensures.producer.1)
+    (sum_of_both blocks_of blocks_append (received c.run_sides-end.new.from) (received c.slots_beside-waiting.new.self) (known_items c.slots_beside-waiting.new.self) _ _ a.looked.1 a.fifo a.producer.1)
     (left_out g.H.RoundHandler.stopped c.run_sides-end.result c.ending-ended.result (known_items c.slots_beside-waiting.new.self) (known_items c.ending-ended.new.from) c.ending-ended.ensures.some
     c.ending-ended.ensures.none)
-    (sym (ap (λ t. homes_of (received t) + homes_of (known_items c.slots_beside.new.self)) c.close-tokens.ensures.same.0)
-    ∙ sym (ap (λ (l : List Token). homes_of l + homes_of (known_items c.slots_beside.new.self)) c.slots_beside.ensures.looked.1)
-    ∙ sym (homes_append (received c.slots_beside.new.self) (known_items c.slots_beside.new.self)) ∙ ap homes_of c.slots_beside.ensures.fifo ∙ ap homes_of c.slots_beside.ensures.producer.1)
+    (sum_of_both homes_of homes_append (received c.run_sides-end.new.supply.desk.tokens) (received c.slots_beside.new.self) (known_items c.slots_beside.new.self) _ _
+    (b.looked.1 ∙ ap received c.close-tokens.ensures.same.0) b.fifo b.producer.1)
     (ap (λ t. shelved t.items) c.close-tokens.ensures.same.1) (ap (λ t. home t.left) c.close-tokens.ensures.same.2) (ap (λ t. blocks_in t.pass.taken) c.close-tokens.ensures.same.2)
     ∙ ap (λ (n : ℕ). n + blocks_in c.close-tokens.result.2.pass.taken)
     (all_out (ap (λ (s : RoundsState). s.home) c.rounds.view_is) (ap blocks_of c.send_first.ensures.sent.1) (ap (λ (x : RoundRead). x.round.blocks) c.send_first.ensures.sent.2) c.requires.out.out)
@@ -108,20 +106,10 @@ returns-in_default-clause-handled g c = (
 
 pub invariant_of-rounds-2 : goal.invariant_of-rounds-2
 invariant_of-rounds-2 g c =
-    let r = c.run_sides-end.ensures.read in
     let k = c.run_sides-end.ensures.worked in
-    let v = c.rounds.invariant in
     let f = c.bring_home.ensures in
-    record {
-      blocks = ap (λ (b : BenchState). b.blocks) k.same ∙ ap (λ (b : BenchState). b.blocks) c.prepare.ensures.same ∙ v.blocks ∙ sym r.same.0 ∙ sym (ap (λ (i : IntakeState). i.blocks) f.same);
-      budget = ap (λ (b : BenchState). b.budget) k.same ∙ ap (λ (b : BenchState). b.budget) c.prepare.ensures.same ∙ v.budget ∙ sym r.same.1 ∙ sym (ap (λ (i : IntakeState). i.budget) f.same);
-      few = (
-        least_same _ _ _ (ap (λ (i : IntakeState). i.budget) f.same ∙ r.same.1) v.few.0,
-        most_same _ _ _ (ap (λ (i : IntakeState). i.budget) f.same ∙ r.same.1) v.few.1,
-      );
-      room = room_back c.run_sides-end.new.bench.blocks c.bring_home.new.intake.blocks c.run_sides-end.new.bench.room (home c.run_sides-end.new.kept) c.bring_home.new.intake.home c.run_sides-end.new.intake.home
-          (ap (λ (b : BenchState). b.blocks) k.same ∙ ap (λ (b : BenchState). b.blocks) c.prepare.ensures.same ∙ v.blocks ∙ sym r.same.0 ∙ sym (ap (λ (i : IntakeState). i.blocks) f.same)) k.room f.least;
-    }
+    one_again c.rounds.inside.intake c.run_sides-end.new.intake c.bring_home.new.intake c.rounds.inside.bench c.prepare.new.bench c.run_sides-end.new.bench (home c.run_sides-end.new.kept)
+    c.rounds.invariant c.prepare.ensures.same c.run_sides-end.ensures.read.same k.same k.room f.same f.least
 
 pub drop_parcels-requires : goal.drop_parcels-requires
 drop_parcels-requires g c =
@@ -158,12 +146,10 @@ returns-clause-handled g c =
     (weights_shelved h c.new.result.shelves.items) (weighed h c.new.result.taker.left.blocks) (weighed h c.bring_home.new.intake.stock) (r.named h) (k.each_named h) (c.run_sides-end.new.supply.desk.weighs h) (c.run_sides-end.new.supply.desk.taker.weighs h)
     (ap (λ t. weights_back h (received t)) c.new.ensures.same.0 ∙ ap (weights_back h) w.unused.1) (ap (λ t. weights_listed h t.pass.taken) c.new.ensures.same.2 ∙ ap (weights_listed h) w.untaken.0)
     (ap (weights_listed h) w.ungiven.1)
-    (sym (ap (λ (l : List (Option Parcel)). weights_sent h l + weights_sent h known) a.looked.1) ∙ sym (weights_sent_append h (received c.slots_beside-waiting.new.self) known)
-    ∙ ap (weights_sent h) a.fifo ∙ ap (weights_sent h) a.producer.1)
+    (sum_of_both (weights_sent h) (weights_sent_append h) (received c.run_sides-end.new.from) (received c.slots_beside-waiting.new.self) known _ _ a.looked.1 a.fifo a.producer.1)
     (left_weights h g.H.RoundHandler.stopped c.run_sides-end.result c.ending-ended.result known left e.some e.none)
-    (sym (ap (λ t. weights_back h (received t) + weights_back h (known_items c.slots_beside.new.self)) c.close-tokens.ensures.same.0)
-    ∙ sym (ap (λ (l : List Token). weights_back h l + weights_back h (known_items c.slots_beside.new.self)) b.looked.1)
-    ∙ sym (weights_back_append h (received c.slots_beside.new.self) (known_items c.slots_beside.new.self)) ∙ ap (weights_back h) b.fifo ∙ ap (weights_back h) b.producer.1)
+    (sum_of_both (weights_back h) (weights_back_append h) (received c.run_sides-end.new.supply.desk.tokens) (received c.slots_beside.new.self) (known_items c.slots_beside.new.self) _ _
+    (b.looked.1 ∙ ap received c.close-tokens.ensures.same.0) b.fifo b.producer.1)
     (ap (λ t. weights_shelved h t.items) c.close-tokens.ensures.same.1) (ap (λ t. weighed h t.left.blocks) c.close-tokens.ensures.same.2)
     (ap (λ t. weights_listed h t.pass.taken) c.close-tokens.ensures.same.2) (f.named h) (c.drop_parcels.ensures.named h) (ap (λ (s : RoundsState). weighed h s.stock) view)
     (ap (weights_sent h) c.send_first.ensures.sent.1) (ap (λ (x : RoundRead). weights_of x.round h) c.send_first.ensures.sent.2) in
@@ -188,7 +174,7 @@ returns-clause-handled g c =
     (record {
       out = c.requires.out.out;
       full = c.requires.full;
-      few = omega (arith, c.taken.ensures.value);
+      few = subst (λ (n : ℕ). n < 2 ^ 64) c.taken.ensures.value c.taken.type_inv;
       alone = c.send_first.ensures.sent;
       on = r.read;
       fifo = ap (λ (l : List (Option Parcel)). l ++ known) (sym a.looked.1) ∙ a.fifo ∙ a.producer.1;
@@ -201,3 +187,25 @@ returns-clause-handled g c =
     (ends_as did g.H.RoundHandler.stopped (options_of first) (options_at c.prepare.new.bench) (received c.run_sides-end.new.from) c.args.into.now c.run_sides-end.new.into c.run_sides-end.result
     options k.handled)
     e.some e.none
+
+pub invariant_of-rounds : goal.invariant_of-rounds
+invariant_of-rounds g c =
+    let p = c.prepare.ensures in
+    let v = c.rounds.invariant in
+    let i = c.rounds.inside.intake in
+    record {
+      blocks = ap (λ (b : BenchState). b.blocks) p.same ∙ v.blocks;
+      budget = ap (λ (b : BenchState). b.budget) p.same ∙ v.budget;
+      few = v.few;
+      room = room_later (i.blocks + i.blocks) (i.home + i.home) c.rounds.inside.bench.room c.prepare.new.bench.room v.room p.later;
+    }
+
+pub send_first-requires-clause-shelf : goal.send_first-requires-clause-shelf
+send_first-requires-clause-shelf g c =
+    let shelf = c.in-Ok.ensures.shelf in (shelf.0, shelf.1 ∙ c.rounds.invariant.blocks ∙ ap (λ (s : RoundsState). s.blocks) c.rounds.view_is ∙ c.requires.named)
+
+pub new-requires-clause-none : goal.new-requires-clause-none
+new-requires-clause-none g c = (c.args.ways.unused.1, c.in-Ok.ensures.shelves)
+
+pub returns-clause-same_source : goal.returns-clause-same_source
+returns-clause-same_source g c = c.run_sides-end.ensures.same_source

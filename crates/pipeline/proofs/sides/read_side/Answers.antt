@@ -1,4 +1,4 @@
-use Rattle.std.proofs.Common.{◌∙◌, ◌∷◌, ◌+◌, ◌++◌, [], ℕ, List, Option, None, Some, true, ap, sym, subst, refl, arith, rules, length, length-append, append-nil}
+use Rattle.std.proofs.Common.{◌∙◌, ◌∷◌, ◌+◌, ◌++◌, [], ℕ, List, Option, None, Some, true, ap, sym, subst, refl, arith, length, length-append, append-nil}
 use Rattle.rtrb.specs.Ring.{sent, received}
 use Rattle.pipeline.specs.declared.parcel.Parcel.{Parcel}
 use Rattle.block_supply.specs.Lists.{listed_home, weights_home}
@@ -7,15 +7,30 @@ use Rattle.pipeline.specs.Parcels.{blocks_of, packets_of, rounds_of, weights_sen
 use Rattle.pipeline.specs.Reads.{HasRead}
 use Rattle.block_pool.specs.PoolState.{weighed}
 use Rattle.crossing.specs.Desks.{brought_to, weights_to}
+use Rattle.crossing.specs.declared.desk.Desk.{Desk}
+use Rattle.crossing.specs.declared.post.Post.{Ghosts}
+use Rattle.rounds.specs.RoundsState.{IntakeState}
 use Rattle.rounds.specs.Weights.{weights_of}
-use Rattle.pipeline.proofs.Counting.{read_more, read_none, read_stopped, same_brought}
-use Rattle.rounds.specs.Reads.{reader_at, Reads}
+use Rattle.pipeline.proofs.Counting.{least_equal, least_same, least_then, number_more, packets_more, read_more, read_none, read_stopped, same_brought}
+use Rattle.pipeline.proofs.Kept.{producer_then}
+use Rattle.rounds.specs.Reads.{reader_at, Reads, Spot}
 use Rattle.rounds.proofs.Going.{few_later, few_none, few_paused}
 use Rattle.rounds.proofs.Rows.{all_go_last, full_end, reads_last}
 use Rattle.pipeline.proofs.Rows.{blocks_last, packets_append, read_as, rounds_last, sent_more, sent_none, weights_sent_append}
 use Rattle.pipeline.proofs.sides.read_side.Given as given
 use Rattle.pipeline.proofs.sides.read_side.Goals as goal
 use Rattle.pipeline.proofs.sides.read_side.Goals.{After-is_full}
+
+-- before the first turn
+read_nothing : {W : Type 0} {G : Ghosts W} (intake : IntakeState) (at : Spot) (xs : List (Option Parcel)) (desk : Desk W G) → HasRead intake intake at at xs xs desk desk
+read_nothing intake at xs desk = record {
+  read = record { more = []; sent = sym (append-nil (rounds_of xs)); reads = refl };
+  sum = refl;
+  named = λ h. refl;
+  paused = few_none _ _ _ _ (omega arith) refl;
+  same = (refl, refl, refl);
+  later = omega arith;
+}
 
 abbrev parcel : (g : given.Over) → After-is_full g → Parcel
 parcel g c = record { number = c.loop.number; read = c.read_beside-read.result; shelf = c.in-Some-pick.shelf }
@@ -66,10 +81,10 @@ all_read g c =
           (same_brought (ap (λ t. weights_back h (received t)) d.1) (ap (λ s. weights_shelved h s.items) d.0) (ap (λ t. weights_home h t.pass t.left) d.2))
           (ap (weights_sent h) s ∙ weights_sent_append h (sent l.supply.out) (Some (parcel g c) ∷ []));
       paused = few_later _ _ _ _ _ _
-          (few_paused true refl _ _ _ _ _ _ (few_later _ _ _ _ _ _ e.paused (omega (arith, b.asked, ap (λ t. t.pass.empties) k.same.2)) b.same.4) r.asked r.later_pauses r.paused)
-          (omega (arith, ap (λ t. t.pass.empties) d.2)) refl;
+          (few_paused true refl _ _ _ _ _ _ (few_later _ _ _ _ _ _ e.paused (least_same _ _ _ (ap (λ t. t.pass.empties) k.same.2) b.asked) b.same.4) r.asked r.later_pauses r.paused)
+          (least_equal _ _ (ap (λ t. t.pass.empties) d.2)) refl;
       same = (r.same.0 ∙ b.same.0 ∙ e.same.0, r.same.1 ∙ b.same.2 ∙ e.same.1, r.same.2 ∙ b.same.3 ∙ e.same.2);
-      later = omega (arith, r.later, e.later);
+      later = least_then _ _ _ e.later r.later;
     }
 
 pub returns-in_default-clause-read : goal.returns-in_default-clause-read
@@ -94,7 +109,7 @@ returns-in_default-clause-read g c =
           (weights_to l.supply.desk h) (weighed h c.bring_more.new.self.stock) (e.named h) (b.named h)
           (same_brought (ap (λ t. weights_back h (received t)) k.same.1) (k.named h) (ap (λ t. weights_home h t.pass t.left) k.same.2))
           (ap (weights_sent h) s ∙ weights_sent_append h (sent l.supply.out) (None ∷ []));
-      paused = few_later _ _ _ _ _ _ e.paused (omega (arith, b.asked, ap (λ t. t.pass.empties) k.same.2)) b.same.4;
+      paused = few_later _ _ _ _ _ _ e.paused (least_same _ _ _ (ap (λ t. t.pass.empties) k.same.2) b.asked) b.same.4;
       same = (b.same.0 ∙ e.same.0, b.same.2 ∙ e.same.1, b.same.3 ∙ e.same.2);
       later = e.later;
     }
@@ -133,30 +148,24 @@ send-requires-in-loop g c =
     record {
       allowed = record {
         number = i.number;
-        packets = omega (arith, i.packets, i.ready.counted.few);
-        is = record { few = omega (arith, r.size, r.budget.1); captured = r.captured; numbers = (l.reader.place.number, r.numbers) };
-        blocks = omega (arith, r.within, c.bring_more.ensures.same.0, i.read.same.0, n.0);
+        packets = least_then _ _ _ i.packets i.ready.counted.few;
+        is = record { few = least_then _ _ _ r.size r.budget.1; captured = r.captured; numbers = (l.reader.place.number, r.numbers) };
+        blocks = least_same _ _ _ (sym (c.bring_more.ensures.same.0 ∙ i.read.same.0 ∙ n.0)) r.within;
         empty = c.in-Some-pick.ensures.ready.0;
         made = c.in-Some-pick.ensures.ready.1 ∙ n.1;
       };
     }
 
 pub loop-init : goal.loop-init
+unfolding read_nothing
 loop-init g c =
     let a = c.requires.reads in
     record {
-      ring = search rules;
+      ring = ((refl, refl, refl, refl), refl);
       same = refl;
       ready = a.ready;
       link = a.link;
-      read = record {
-        read = record { more = []; sent = sym (append-nil (rounds_of (sent c.args.supply.now.out))); reads = refl };
-        sum = omega arith;
-        named = λ h. omega arith;
-        paused = few_none _ _ _ _ (omega arith) refl;
-        same = (refl, refl, refl);
-        later = omega arith;
-      };
+      read = read_nothing c.args.intake.now (reader_at g.S.Source.left g.S.Source.faults c.args.reader.now c.args.intake.now.taken) (sent c.args.supply.now.out) c.args.supply.now.desk;
       go = tt;
       number = omega (arith, ap (λ (xs : List (Option Parcel)). length (rounds_of xs)) a.first.1);
       packets = omega (arith, ap (λ (xs : List (Option Parcel)). packets_of (rounds_of xs)) a.first.1, a.first.3);
@@ -176,13 +185,34 @@ loop-preserved g c =
     let passes = r.full full in
     let now = rounds_last (sent l.supply.out) _ (parcel g p) c.send-in-loop.ensures.sent in
     record {
-      ring = search rules;
-      same = search rules;
+      ring = producer_then c.args.supply.now.out l.supply.out c.send-in-loop.new.ring i.ring c.send-in-loop.ensures.ring;
+      same = r.same_source ∙ i.same;
       ready = passes.ready;
       link = passes.link ∙ i.link;
       read = all_read g p;
       go = all_go_last i.read.read.more read i.go on;
-      number = omega (arith, i.number, ap length now, length-append (rounds_of (sent l.supply.out)) (read ∷ []));
-      packets = omega (arith, i.packets, ap packets_of now, packets_append (rounds_of (sent l.supply.out)) (read ∷ []), passes.number, passes.full);
-      counted = omega (arith, i.counted, passes.number, r.budget.0);
+      number = ap (λ (n : ℕ). n + 1) i.number ∙ sym (ap length now ∙ length-append (rounds_of (sent l.supply.out)) (read ∷ []));
+      packets = packets_more (packets_of (rounds_of (sent l.supply.out))) (length read.round.packets) l.reader.place.number c.bring_more.new.self.budget i.packets
+          (ap packets_of now ∙ packets_append (rounds_of (sent l.supply.out)) (read ∷ [])) passes.number passes.full;
+      counted = number_more l.number l.reader.place.number c.bring_more.new.self.budget i.counted passes.number r.budget.0;
     }
+
+pub returns-then-not-begin-clause-read : goal.returns-then-not-begin-clause-read
+returns-then-not-begin-clause-read g c =
+    read_nothing c.args.intake.now (reader_at g.S.Source.left g.S.Source.faults c.args.reader.now c.args.intake.now.taken) (sent c.args.supply.now.out) c.args.supply.now.desk
+
+pub returns-then-has_stopped-clause-same_source : goal.returns-then-has_stopped-clause-same_source
+returns-then-has_stopped-clause-same_source g c = c.loop.invariant.same
+
+pub returns-in_default-clause-ring : goal.returns-in_default-clause-ring
+returns-in_default-clause-ring g c = producer_then c.args.supply.now.out c.loop.supply.out c.send.new.ring c.loop.invariant.ring c.send.ensures.ring
+
+pub returns-in_default-clause-same_source : goal.returns-in_default-clause-same_source
+returns-in_default-clause-same_source g c = c.loop.invariant.same
+
+pub returns-then-not-is_full-clause-ring : goal.returns-then-not-is_full-clause-ring
+returns-then-not-is_full-clause-ring g c =
+    producer_then c.args.supply.now.out c.loop.supply.out c.send-in-loop.new.ring c.loop.invariant.ring c.send-in-loop.ensures.ring
+
+pub returns-then-not-is_full-clause-same_source : goal.returns-then-not-is_full-clause-same_source
+returns-then-not-is_full-clause-same_source g c = c.read_beside-read.ensures.same_source ∙ c.loop.invariant.same

@@ -1,7 +1,9 @@
-use Rattle.std.proofs.Common.{◌≡◌, ◌+◌, ◌≤◌, ◌^◌, ℕ, ◌∙◌, [], ◌∷◌, None, Some, List, refl, inr, sym, ap, subst, arith, rules, length}
+use Rattle.std.proofs.Common.{◌≡◌, ◌+◌, ◌≤◌, ◌^◌, ℕ, ◌∙◌, [], ◌∷◌, None, Some, Result, Ok, Err, false, List, refl, inr, sym, ap, subst, arith, rules, length}
+use Rattle.std.specs.Prelude.{OnOk, is_err}
+use Rattle.std.proofs.lemmas.Bool.{false≢true}
 use Rattle.block_pool.specs.PoolState.{PoolState, home, weighed}
 use Rattle.rtrb.specs.Ring.{received, sent}
-use Rattle.rounds.specs.Benches.{options_at, IsRead}
+use Rattle.rounds.specs.Benches.{options_at, HasRoom, IsRead}
 use Rattle.rounds.specs.RoundsState.{BenchState}
 use Rattle.rounds.specs.Weights.{weights_of}
 use Rattle.rounds.specs.declared.round.RoundRead.{RoundRead}
@@ -11,10 +13,11 @@ use Rattle.crossing.specs.Tokens.{homes_of, weights_back}
 use Rattle.pipeline.specs.Parcels.{blocks_of, packets_of, rounds_of, weights_sent, BringsNone}
 use Rattle.rounds.proofs.Going.{went_more, went_ends, went_stopped}
 use Rattle.block_supply.proofs.Listing.{weighed_none}
-use Rattle.pipeline.proofs.Rows.{blocks_last, packets_append, rounds_last, rounds_none, weights_sent_append}
+use Rattle.pipeline.proofs.Rows.{blocks_last, packets_append, packets_none, rounds_last, rounds_none, weights_sent_append}
 use Rattle.rounds.proofs.Going.{ready_as}
 use Rattle.pipeline.proofs.Together.{handled_as}
-use Rattle.pipeline.proofs.Counting.{came_more, kept_last, room_kept, room_more, told_more, told_same}
+use Rattle.pipeline.proofs.Kept.{bench_then, consumer_then, producer_then}
+use Rattle.pipeline.proofs.Counting.{came_more, came_none, kept_last, may_bring, room_kept, room_more, told_more, told_same}
 use Rattle.pipeline.proofs.Lending.{brings_none, brings_none_lent, brings_none_more, lends_same, lends_then, lent_again}
 use Rattle.pipeline.proofs.sides.work_side.Given as given
 use Rattle.pipeline.proofs.sides.work_side.Goals as goal
@@ -111,19 +114,14 @@ returns-in_default-clause-worked g c =
       handled = subst (λ (rs : List RoundRead). Ends did g.H.RoundHandler.stopped 0 c.args.into.now l.into rs c.stop.result) (sym (rounds_none (received l.from) _ c.receive.result none came))
           (went_stopped did g.H.RoundHandler.stopped 0 c.args.into.now l.into (rounds_of (received l.from)) c.stop.result c.stop.ensures.end i.went);
       ready = (packets_of (rounds_of (received l.from)), i.few, i.ready);
-      each = omega (arith, i.each, i.empty, ap blocks_of came, blocks_last (received l.from) c.receive.result, ap (λ x. blocks_of (x ∷ [])) none);
+      each = came_none (homes_of (sent l.told)) (given_by l.giver) (blocks_of (received l.from)) (given_by c.args.giver.now) i.each i.empty
+          (ap blocks_of came ∙ blocks_last (received l.from) c.receive.result) (ap (λ x. blocks_of (x ∷ [])) none);
       each_named = λ h.
-          omega (
-            arith,
-            i.named h,
-            weighed_none h l.kept.blocks i.empty,
-            ap (weights_sent h) came,
-            weights_sent_append h (received l.from) (c.receive.result ∷ []),
-            ap (λ x. weights_sent h (x ∷ [])) none,
-          );
+          came_none (weights_back h (sent l.told)) (weights_given l.giver h) (weights_sent h (received l.from)) (weights_given c.args.giver.now h) (i.named h) (weighed_none h l.kept.blocks i.empty)
+          (ap (weights_sent h) came ∙ weights_sent_append h (received l.from) (c.receive.result ∷ [])) (ap (λ x. weights_sent h (x ∷ [])) none);
       lends = i.lends;
       none_left = i.brings;
-      room = omega (arith, i.room, i.empty);
+      room = subst (λ (n : ℕ). HasRoom n l.bench) (sym i.empty) i.room;
       same = i.bench;
     }
 
@@ -135,10 +133,8 @@ handle-requires-clause-may g c =
     let i = c.loop.invariant in
     let o = c.open-number.ensures.same in
     let fits = c.in-Some-receive.ensures.allowed in
-    let n = c.open-number.result.1.round.blocks in
-    let same = ap (λ (r : RoundRead). r.round.blocks) o.1 in
-    let few : n ≤ c.loop.bench.blocks = omega (arith, fits.blocks, same, ap (λ (b : BenchState). b.blocks) i.bench, c.requires.works.named) in
-    record { out = omega (arith, ap home o.2, fits.empty, ap (λ (s : PoolState). s.made) o.2, fits.made, fits.blocks, same); few = few; room = omega (arith, few, i.room) }
+    may_bring _ c.in-Some-receive.parcel.read.round.blocks g.N.Naming.blocks c.loop.bench c.open-number.result.2 (ap (λ (r : RoundRead). r.round.blocks) o.1) fits.blocks
+    (ap (λ (b : BenchState). b.blocks) i.bench ∙ c.requires.works.named) (ap home o.2 ∙ fits.empty) (ap (λ (s : PoolState). s.made) o.2 ∙ fits.made) i.room
 
 pub handle-requires-clause-read : goal.handle-requires-clause-read
 handle-requires-clause-read g c = subst (λ (r : RoundRead). IsRead r.round) (sym c.open-number.ensures.same.1) c.in-Some-receive.ensures.allowed.is
@@ -188,14 +184,15 @@ returns-in-Some-handle-clause-worked g c =
       lends = lends_then c.args.giver.now l.giver c.handle.new.giver i.lends left;
       none_left = brings_none_lent (sent l.told) (sent c.send_home.new.told) c.args.giver.now l.giver c.handle.new.giver (told_same (homes_of (sent l.told)) c.send_home.ensures.sum (ap home r.value) i.empty) left i.brings;
       room = room_kept l.bench.room (home c.open-number.result.2) c.handle.new.bench.room i.room b.room (ap (λ (b : BenchState). b.blocks) b.same) (ap home r.after);
-      same = search rules;
+      same = bench_then first l.bench c.handle.new.bench i.bench b.same;
     }
 
 pub returns-then-is_err-clause-worked : goal.returns-then-is_err-clause-worked
 returns-then-is_err-clause-worked g c =
     let l = c.loop in
     let i = l.invariant in
-    let did = g.H.RoundHandler.did c.args.handler.now (options_at c.args.bench.now) in
+    let first = c.args.bench.now in
+    let did = g.H.RoundHandler.did c.args.handler.now (options_at first) in
     let b = c.handle.ensures.brings in
     let left = c.handle.ensures.gave in
     let r = c.replace-then-is_err.ensures in
@@ -213,21 +210,26 @@ returns-then-is_err-clause-worked g c =
       none_left = brings_none_lent (sent l.told) (sent c.send_home-then-is_err.new.told) c.args.giver.now l.giver c.handle.new.giver (told_same (homes_of (sent l.told)) told.sum (ap home r.value) i.empty) left i.brings;
       room = room_more l.bench.room (home c.open-number.result.2) i.room b.room (ap (λ (b : BenchState). b.blocks) b.same) (ap home r.after) c.make_room.ensures.later
           (ap (λ (b : BenchState). b.blocks) c.make_room.ensures.same);
-      same = search rules;
+      same = bench_then first c.handle.new.bench c.make_room.new.self (bench_then first l.bench c.handle.new.bench i.bench b.same) c.make_room.ensures.same;
     }
+
+room_made : {T E : Type 0} (r : Result T E) (bench : BenchState) → is_err r ≡ false → OnOk r (bench.blocks + bench.blocks ≤ bench.room) → HasRoom 0 bench
+room_made (Ok x) bench ok room = omega arith
+room_made (Err e) bench ok room = absurd (false≢true (sym ok))
 
 pub loop-preserved : goal.loop-preserved
 loop-preserved g c =
     let l = c.loop in
     let i = l.invariant in
+    let first = c.args.bench.now in
     let p = (goal.at.loop-preserved g c).After-handle in
     let h = c.in-None-handle.ensures in
     record {
-      from = search rules;
-      told = search rules;
-      room = search rules;
+      from = consumer_then c.args.from.now l.from c.receive.new.ring i.from c.receive.ensures.ring;
+      told = producer_then c.args.told.now l.told c.send_home-in-loop.new.told i.told c.send_home-in-loop.ensures.ring;
+      room = room_made c.make_room.result c.make_room.new.self (sym c.is_err.ensures.value ∙ c.if-is_err.false) c.make_room.ensures.room;
       empty = i.empty;
-      bench = search rules;
+      bench = bench_then first c.handle.new.bench c.make_room.new.self (bench_then first l.bench c.handle.new.bench i.bench h.brings.same) c.make_room.ensures.same;
       lends = lends_then c.args.giver.now c.handle.new.giver c.give_list.new.giver (lends_then c.args.giver.now l.giver c.handle.new.giver i.lends h.gave) c.give_list.ensures.gave;
       brings = brings_none_more (sent l.told) (sent c.send_home-in-loop.new.told) c.args.giver.now l.giver c.handle.new.giver c.give_list.new.giver c.give_list.new.list.blocks
           c.send_home-in-loop.ensures.sum i.lends h.gave c.give_list.ensures.gave c.give_list.ensures.none_left i.brings;
@@ -242,3 +244,39 @@ loop-preserved g c =
 
 pub give_list-requires : goal.give_list-requires
 give_list-requires g c = record { lent = lent_again c.args.giver.now c.handle.new.giver (lends_then c.args.giver.now c.loop.giver c.handle.new.giver c.loop.invariant.lends c.handle.ensures.gave) }
+
+pub loop-init : goal.loop-init
+loop-init g c =
+    let a = c.requires.works in
+    let giver = c.args.giver.now in
+    let first = c.args.bench.now in
+    let into = c.args.into.now in
+    record {
+      from = ((refl, refl, refl, refl), refl);
+      told = ((refl, refl, refl, refl), refl);
+      room = a.room;
+      empty = a.empty;
+      bench = refl;
+      each = ap (λ ts. homes_of ts + given_by giver) a.none.1 ∙ sym (ap (λ xs. blocks_of xs + given_by giver) a.none.0);
+      named = λ h. ap (λ ts. weights_back h ts + weights_given giver h) a.none.1 ∙ sym (ap (λ xs. weights_sent h xs + weights_given giver h) a.none.0);
+      lends = lends_same giver a.lent;
+      brings = subst (λ ts. BringsNone ts giver giver) (sym a.none.1) (brings_none giver);
+      went = subst (λ xs. Went (g.H.RoundHandler.did c.args.handler.now (options_at first)) 0 into into (rounds_of xs)) (sym a.none.0) refl;
+      few = packets_none (2 ^ 32 + 4096) (received c.args.from.now) a.none.0;
+      ready = subst (λ xs. g.H.RoundHandler.ready (options_at first) first.keep (packets_of (rounds_of xs)) into) (sym a.none.0) a.start;
+    }
+
+pub returns-in_default-clause-rings : goal.returns-in_default-clause-rings
+returns-in_default-clause-rings g c = (consumer_then c.args.from.now c.loop.from c.receive.new.ring c.loop.invariant.from c.receive.ensures.ring, c.loop.invariant.told)
+
+pub returns-in-Some-handle-clause-rings : goal.returns-in-Some-handle-clause-rings
+returns-in-Some-handle-clause-rings g c = (
+  consumer_then c.args.from.now c.loop.from c.receive.new.ring c.loop.invariant.from c.receive.ensures.ring,
+  producer_then c.args.told.now c.loop.told c.send_home.new.told c.loop.invariant.told c.send_home.ensures.ring,
+)
+
+pub returns-then-is_err-clause-rings : goal.returns-then-is_err-clause-rings
+returns-then-is_err-clause-rings g c = (
+  consumer_then c.args.from.now c.loop.from c.receive.new.ring c.loop.invariant.from c.receive.ensures.ring,
+  producer_then c.args.told.now c.loop.told c.send_home-then-is_err.new.told c.loop.invariant.told c.send_home-then-is_err.ensures.ring,
+)
