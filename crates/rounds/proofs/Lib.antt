@@ -8,6 +8,8 @@ mod Taking
 mod Naming
 -- a round that is read
 mod Rounding
+-- what it counts, step by step
+mod Counting
 -- a round that waits behind a header, and its rest
 pub mod Pausing
 -- what a call keeps of a round

@@ -1,10 +1,11 @@
-use Rattle.std.proofs.Common.{◌∙◌, ◌+◌, ℕ, ap, sym, subst, arith}
+use Rattle.std.proofs.Common.{◌≡◌, ◌∙◌, ◌+◌, ◌≤◌, ℕ, [], ap, refl, sym, subst, arith}
+use Rattle.std.proofs.Math.Nat.{le_refl}
 use Rattle.block_pool.specs.Listed.{blocks_in}
-use Rattle.block_pool.specs.PassState.{PassState, IsHome}
+use Rattle.block_pool.specs.PassState.{PassState, IsHome, IsOwn}
 use Rattle.block_pool.specs.PoolState.{PoolState, home, weighed}
 use Rattle.rounds.specs.RoundsState.{IntakeState}
 use Rattle.block_supply.specs.Lists.{weights_listed}
-use Rattle.block_supply.proofs.Listing.{listed_last, taken_least, weights_listed_last}
+use Rattle.block_supply.proofs.Listing.{listed_last, taken_all, taken_least, weights_listed_last, weights_taken_all}
 use Rattle.rounds.proofs.lists.drain.Goals as goal
 
 pub bring_in-requires : goal.bring_in-requires
@@ -70,3 +71,40 @@ loop-waiting-preserved g c =
       );
       here = subst (λ (p : PassState PoolState). IsHome p here.result) (sym here.ensures.same) here.ensures.blocks;
     }
+
+le-zero : {n : ℕ} → n ≤ 0 → n ≡ 0
+le-zero h = omega arith
+
+pub loop-waiting-init : goal.loop-waiting-init
+loop-waiting-init g c =
+    let lists = c.args.lists.now in
+    let n = c.home-waiting.result in
+    let e = sym c.home-waiting.ensures.same in
+    record {
+      own = subst (λ (p : PassState PoolState). IsOwn lists p) e c.requires.own;
+      parts = subst (λ (p : PassState PoolState). p.parts ≡ 65536) e c.requires.all;
+      made = subst (λ (p : PassState PoolState). p.made ≡ []) e c.requires.made;
+      put = refl;
+      same = refl;
+      sum = refl;
+      named = λ h. refl;
+      rises = le_refl c.args.intake.now.home;
+      count = subst (λ (p : PassState PoolState). n + p.takes ≡ lists.made + p.puts) e c.home-waiting.ensures.count;
+      here = subst (λ (p : PassState PoolState). IsHome p n) e c.home-waiting.ensures.blocks;
+    }
+
+pub returns-clause-home : goal.returns-clause-home
+returns-clause-home g c =
+    let l = c.loop-waiting in
+    let i = l.invariant in
+    let same = c.home-waiting.ensures.same in
+    let all = taken_all l.pass l.waiting (le-zero c.loop-waiting-test.false) i.made i.here ∙ ap blocks_in i.put ∙ ap (λ (p : PassState PoolState). blocks_in p.put) same in
+    ap (λ (p : PassState PoolState). l.intake.home + blocks_in p.taken) (sym same) ∙ i.sum ∙ ap (λ (n : ℕ). c.args.intake.now.home + n) all
+
+pub returns-clause-named : goal.returns-clause-named
+returns-clause-named g c = λ h.
+    let l = c.loop-waiting in
+    let i = l.invariant in
+    let same = c.home-waiting.ensures.same in
+    let all = weights_taken_all h l.pass l.waiting (le-zero c.loop-waiting-test.false) i.made i.here ∙ ap (weights_listed h) i.put ∙ ap (λ (p : PassState PoolState). weights_listed h p.put) same in
+    ap (λ (p : PassState PoolState). weighed h l.intake.stock + weights_listed h p.taken) (sym same) ∙ i.named h ∙ ap (λ (n : ℕ). weighed h c.args.intake.now.stock + n) all

@@ -1,16 +1,16 @@
-use Rattle.std.proofs.Common.{◌≡◌, ◌-◌, ◌+◌, ◌++◌, ◌∷◌, [], List, ℕ, Ok, Err, ap, sym, subst, ◌∙◌, arith, refl, length, length-append}
+use Rattle.std.proofs.Common.{◌≡◌, ◌-◌, ◌+◌, ◌*◌, ◌<◌, ◌≤◌, ◌++◌, ◌∷◌, [], List, ℕ, Ok, Err, ap, sym, subst, ◌∙◌, arith, refl, length, length-append}
 use Rattle.block_pool.specs.PoolState.{home}
 use Rattle.off_io.specs.Told.{Told}
 use Rattle.gro.specs.declared.slot.Slot.{Slot as Packet}
 use Rattle.gro.specs.Packets.{PacketsState}
-use Rattle.gro.specs.Slots.{weighed_slots}
-use Rattle.gro.proofs.Weights.{weighed_last}
 use Rattle.rounds.specs.Reading.{GivesRest, NumbersOn, WaitsOver}
 use Rattle.rounds.specs.declared.round.RoundEnd.{RoundEnd}
-use Rattle.reading.specs.Reading.{GivesRecord}
+use Rattle.reading.specs.Reading.{front_size, GivesRecord}
 use Rattle.rounds.specs.RoundOf.{brought_by}
-use Rattle.rounds.proofs.Pausing.{came_back, came_then, full_fault, halt_ended, halt_fault, halt_full, halt_lacking, round_last, round_same, waits_over}
+use Rattle.rounds.proofs.Pausing.{came_back, came_then, full_fault, halt_ended, halt_fault, halt_full, halt_lacking, lacking_full, round_last, round_same, waits_over}
 use Rattle.rounds.proofs.Rounding.{no_front, so_far_none, so_far_at, so_far_more, round_stop_given, fills_round, numbers_none, numbers_more}
+use Rattle.std.proofs.Math.Nat.{le-add_right, le_trans}
+use Rattle.rounds.proofs.Counting.{came_one, fits_type, most_more, one_more, room_more, rose_later, size_more, taken_more, takes_last}
 use Rattle.rounds.proofs.round_reading.read_more.Goals as goal
 
 pub reading-init : goal.reading-init
@@ -58,12 +58,12 @@ returns-in-Err-clause-fills g c =
       given = halt_ended (λ (end : RoundEnd). Told a b (GivesRest c.args.pool.now.made old new first c.read_record.new.packets.items end)) stop c.halt_of.result c.halt_of.ensures.halt
           (λ end ends. subst (λ (xs : List Packet). Told a b (GivesRest c.args.pool.now.made old new first xs end)) (sym same)
           (round_stop_given _ _ _ old l.reader.place new l.used c.args.pool.now.made first l.packets.items stop end (i.so_far.link ∙ c.requires.link) i.within i.round.need ends i.so_far.told told));
-      size = omega (arith, count, i.size);
-      fewer = λ not_full. omega (arith, count, c.reading-test.true, c.len.ensures);
+      size = subst (λ (n : ℕ). n ≤ c.args.budget) (sym count) i.size;
+      fewer = λ not_full. subst (λ (n : ℕ). n < c.args.budget) (c.len.ensures.len ∙ sym count) c.reading-test.true;
       full = λ full. absurd (halt_full stop c.halt_of.result c.halt_of.ensures.halt full);
       numbers = subst (NumbersOn old.number first) (sym same) i.numbers;
-      later = omega (arith, c.in-Err.ensures.later, i.later);
-      failed = λ fault. omega (arith, i.later, c.in-Err.ensures.failed (ap Err (halt_fault stop c.halt_of.result c.halt_of.ensures.halt fault)));
+      later = le_trans i.later c.in-Err.ensures.later;
+      failed = λ fault. rose_later _ _ _ i.later (c.in-Err.ensures.failed (ap Err (halt_fault stop c.halt_of.result c.halt_of.ensures.halt fault)));
     }
 
 pub returns-in-Err-clause-round : goal.returns-in-Err-clause-round
@@ -144,30 +144,30 @@ reading-preserved g c =
     let none = no_front c.read_record.new.front r.front in
     let told = subst (λ (f : List ℕ). Told (g.S.Source.left l.reader.source.now) (g.S.Source.left c.read_record.new.reader.source.now) (GivesRecord l.used l.pool.made l.reader.place
     c.read_record.new.reader.place f (Ok p))) none (r.given p e) in
+    let count = c.in-Ok.count in
+    let more = one_more ps qs p e in
     record {
       so_far = so_far_at _ _ c.args.reader.now.place c.read_record.new.reader.place first (ps ++ p ∷ []) qs e (so_far_more _ _ _ c.args.reader.now.place l.reader.place c.read_record.new.reader.place
           l.used l.pool.made first ps p i.so_far told r.next);
-      size = omega (arith, ap length e, length-append ps (p ∷ []), i.size, c.reading-test.true, c.len.ensures);
-      reserved = omega (arith, ap length e, length-append ps (p ∷ []), i.reserved, r.room);
-      room = omega (arith, i.room, r.made.1);
-      round = round_last ps qs p (home l.spares) (home c.read_record.new.spares) l.used (l.used + c.in-Ok.count) (l.used - c.home.result) e i.round (omega (arith, c.home.ensures.home)) r.spares
-          (omega (arith, k)) (r.laid p e) (r.read p e) (r.captured p e (i.so_far.link ∙ c.requires.link)) (r.need p e);
+      size = size_more more c.len.ensures.len c.reading-test.true;
+      reserved = room_more (length ps) l.packets.room c.read_record.new.packets.room more i.reserved r.room;
+      room = subst (λ (n : ℕ). 2 * c.args.budget ≤ n) (sym r.made.1) i.room;
+      round = round_last ps qs p (home l.spares) (home c.read_record.new.spares) l.used (l.used + count) (l.used - c.home.result) e i.round (ap (λ (n : ℕ). l.used - n) c.home.ensures.home) r.spares
+          (ap (λ (n : ℕ). l.used + n) (sym k)) (r.laid p e) (r.read p e) (r.captured p e (i.so_far.link ∙ c.requires.link)) (r.need p e);
       numbers = subst (NumbersOn start first) (sym e) (numbers_more start l.reader.place.number first ps p i.numbers i.so_far.number (r.number p e));
-      came = record {
-        sum = omega (arith, i.came.sum, r.home, k);
-        named = λ h. omega (arith, i.came.named h, r.named p e h, ap (weighed_slots h) e, weighed_last h ps p);
-        owed = omega (arith, i.came.owed, r.owed);
-        asked = omega (arith, i.came.asked, r.asked);
-      };
-      within = omega (arith, i.made, r.fits, k);
-      made = omega (arith, i.made, r.made);
-      more = omega (arith, i.more);
-      taken = omega (arith, i.more, i.taken, r.taken, k);
-      least = omega (arith, i.least, r.least);
-      most = omega (arith, i.most, r.taken, k);
-      hold = record { empty = r.empty; room = omega (arith, r.capacity, i.hold.room) };
+      came = came_then _ _ _ _ _ _ _ _ _ i.came
+          (came_one (brought_by g.H.Supply.brought g.H.Supply.weights g.H.Supply.owed g.H.Supply.refusals l.more)
+          (brought_by g.H.Supply.brought g.H.Supply.weights g.H.Supply.owed g.H.Supply.refusals c.read_record.new.more) l.used count l.pool c.read_record.new.pool l.spares c.read_record.new.spares ps qs p e
+          r.home (r.named p e) r.owed r.asked);
+      within = subst (λ (n : ℕ). l.used + count ≤ n) i.made r.fits;
+      made = r.made.0 ∙ i.made;
+      more = le_trans i.more (le-add_right l.used count);
+      taken = taken_more c.args.pool.now.taken c.args.used l.used count i.more i.taken r.taken;
+      least = le_trans i.least r.least;
+      most = most_more l.pool.taken c.args.pool.now.taken c.args.used l.used count i.most r.taken;
+      hold = record { empty = r.empty; room = subst (λ (n : ℕ). 131 ≤ n) (sym r.capacity) i.hold.room };
       same = r.same_source ∙ i.same;
-      later = omega (arith, r.later, i.later);
+      later = le_trans i.later r.later;
     }
 
 pub reading-smaller : goal.reading-smaller
@@ -175,3 +175,30 @@ reading-smaller g c =
     let one = c.in-Ok.ensures.one in
     let more = length-append c.reading.packets.items (one.0 ∷ []) in
     omega (arith, ap length one.1, more, c.reading-test.true, c.len.ensures)
+
+pub returns-in-Err-clause-takes : goal.returns-in-Err-clause-takes
+returns-in-Err-clause-takes g c =
+    let l = c.reading in
+    let i = l.invariant in
+    let r = c.in-Err.ensures in
+    takes_last l.pool.taken c.args.pool.now.taken c.read_record.new.pool.taken c.args.used l.used i.made i.within i.more i.taken i.least i.most r.least r.most
+
+pub returns-in-Err-clause-hold : goal.returns-in-Err-clause-hold
+returns-in-Err-clause-hold g c =
+    let r = c.in-Err.ensures in
+    record { empty = r.empty; room = subst (λ (n : ℕ). 131 ≤ n) (sym r.capacity) c.reading.invariant.hold.room }
+
+pub returns-in-Err-clause-same_source : goal.returns-in-Err-clause-same_source
+returns-in-Err-clause-same_source g c = c.in-Err.ensures.same_source ∙ c.reading.invariant.same
+
+pub returns-in-Err-clause-made : goal.returns-in-Err-clause-made
+returns-in-Err-clause-made g c = c.in-Err.ensures.made.0 ∙ c.reading.invariant.made
+
+pub returns-clause-lacking : goal.returns-clause-lacking
+returns-clause-lacking g c = λ lacks. absurd (lacking_full (sym lacks))
+
+pub read_record-requires-clause-front : goal.read_record-requires-clause-front
+read_record-requires-clause-front g c = sym (ap front_size (c.reading.invariant.so_far.link ∙ c.requires.link))
+
+pub overflow_add-used : goal.overflow_add-used
+overflow_add-used g c = record { fits = fits_type c.in-Ok.ensures.fits c.reading.invariant.made c.requires.made }

@@ -1,38 +1,40 @@
-use Rattle.std.proofs.Common.{◌≡◌, ◌+◌, ◌∙◌, [], ap, refl, sym, subst, arith, rules}
+use Rattle.std.proofs.Common.{◌≡◌, ◌+◌, ◌≤◌, ◌∙◌, Option, None, Some, ap, refl, sym, subst}
 use Rattle.block_pool.specs.PoolState.{home, weighed}
 use Rattle.std.proofs.lemmas.Option.{same_Some}
-use Rattle.gro.specs.Slots.{weighed_slots}
-use Rattle.reading.proofs.Laying.{weighed_none}
 use Rattle.rounds.specs.Ahead.{round_of}
 use Rattle.rounds.specs.Filling.{reached, FillsAhead}
 use Rattle.rounds.specs.Reading.{WaitsOver}
 use Rattle.rounds.specs.Weights.{weights_of}
 use Rattle.rounds.specs.declared.round.ReadAhead.{ReadAhead}
 use Rattle.rounds.specs.RoundsState.{IntakeState, RoundState}
-use Rattle.rounds.proofs.Pausing.{ends_ahead, waits_ahead}
+use Rattle.rounds.proofs.Pausing.{came_whole, ends_ahead, waits_ahead}
+use Rattle.rounds.proofs.Counting.{came_read}
+use Rattle.rounds.specs.RoundOf.{brought_by, Came, Takes}
+use Rattle.rounds.specs.declared.round.Blank.{Blank}
 use Rattle.rounds.proofs.Rounding.{round_none, whole_numbered}
-use Rattle.rounds.proofs.intake.Intake.read_ahead.Goals.{in-Ended, in-Lacking+in-Some}
+use Rattle.rounds.proofs.intake.Intake.read_ahead.Goals.{in-Ended, in-Lacking+in-Some, Joined-halt}
+use Rattle.rounds.proofs.intake.Intake.read_ahead.Given.{Over}
 use Rattle.rounds.proofs.intake.Intake.read_ahead.Goals as goal
 
 pub read_more-blocks-requires-clause-round : goal.read_more-blocks-requires-clause-round
 read_more-blocks-requires-clause-round g c =
     let lists = c.replace-packets.result in
-    let none : lists.packets.items ≡ [] = search rules in
-    let bare : home lists.spares ≡ 0 = search rules in
+    let none = ap (λ (b : Blank). b.packets.items) c.replace-packets.ensures.value ∙ c.requires.none.0 in
+    let bare = ap (λ (b : Blank). home b.spares) c.replace-packets.ensures.value ∙ c.requires.none.1 in
     round_none lists.packets.items (home lists.spares) 0 none bare refl
 
 pub invariant_of-round : goal.invariant_of-round
 invariant_of-round g c =
     let r = c.read_more-blocks in
     let n = c.args.reader.now.place.number in
-    let none : c.replace-packets.result.packets.items ≡ [] = search rules in
+    let none = ap (λ (b : Blank). b.packets.items) c.replace-packets.ensures.value ∙ c.requires.none.0 in
     (r.ensures.round, (n, whole_numbered n c.replace-packets.result.packets.items r.new.packets.items none r.ensures.fills.numbers))
 
 pub invariant_of-round-in-Lacking : goal.invariant_of-round-in-Lacking
 invariant_of-round-in-Lacking g c =
     let r = c.read_more-blocks in
     let n = c.args.reader.now.place.number in
-    let none : c.replace-packets.result.packets.items ≡ [] = search rules in
+    let none = ap (λ (b : Blank). b.packets.items) c.replace-packets.ensures.value ∙ c.requires.none.0 in
     (r.ensures.round, (n, whole_numbered n c.replace-packets.result.packets.items r.new.packets.items none r.ensures.fills.numbers))
 
 pub returns-clause-fills : goal.returns-clause-fills
@@ -43,7 +45,7 @@ returns-clause-fills g c =
     let to = reached g.S.Source.left g.S.Source.faults r.new.reader in
     let i = c.self.inside in
     let first = c.replace-packets.result.packets.items in
-    let none : c.replace-packets.result.packets.items ≡ [] = search rules in
+    let none = ap (λ (b : Blank). b.packets.items) c.replace-packets.ensures.value ∙ c.requires.none.0 in
     let round : RoundState = record { packets = r.new.packets.items; spares = r.new.spares.blocks; blocks = r.result.0 } in
     let is : FillsAhead i.pool.made i.budget from to c.match-halt.result = elim c.match-halt.branch [
       | in-Ended b ↦ subst (FillsAhead i.pool.made i.budget from to) (sym b.result-is)
@@ -57,31 +59,45 @@ returns-clause-fills g c =
     ] in
     subst (λ (s : IntakeState). FillsAhead s.blocks s.budget from to c.match-halt.result) c.self.view_is is
 
+-- the round is the one that was read, whole or not
+round_is : (g : Over) (c : Joined-halt g) → round_of c.match-halt.result
+    ≡ record { packets = c.read_more-blocks.new.packets.items; spares = c.read_more-blocks.new.spares.blocks; blocks = c.read_more-blocks.result.0 }
+round_is g c = elim c.match-halt.branch [
+  | in-Ended b ↦ ap (λ (x : ReadAhead). round_of x) b.result-is
+  | in-Lacking+in-Some b ↦ ap (λ (x : ReadAhead). round_of x) b.result-is
+]
+
 pub returns-clause-came : goal.returns-clause-came
 returns-clause-came g c =
     let r = c.read_more-blocks in
-    let came = r.ensures.came in
-    let none : c.replace-packets.result.packets.items ≡ [] = search rules in
-    let bare : home c.replace-packets.result.spares ≡ 0 = search rules in
-    let blocks : (round_of c.match-halt.result).blocks ≡ r.result.0 = elim c.match-halt.branch [
-      | in-Ended b ↦ ap (λ (x : ReadAhead). (round_of x).blocks) b.result-is
-      | in-Lacking+in-Some b ↦ ap (λ (x : ReadAhead). (round_of x).blocks) b.result-is
-    ] in
-    record {
-      sum = omega (arith, came.sum, blocks, ap (λ (i : IntakeState). i.home) c.self.view_is);
-      named = λ h.
-          let weighs : weights_of (round_of c.match-halt.result) h ≡ weighed_slots h r.new.packets.items + weighed h r.new.spares.blocks = elim c.match-halt.branch [
-            | in-Ended b ↦ ap (λ (x : ReadAhead). weights_of (round_of x) h) b.result-is
-            | in-Lacking+in-Some b ↦ ap (λ (x : ReadAhead). weights_of (round_of x) h) b.result-is
-          ] in
-          omega (
-            arith,
-            came.named h,
-            weighs,
-            ap (weighed_slots h) none,
-            weighed_none h c.replace-packets.result.spares.blocks bare,
-            ap (λ (i : IntakeState). weighed h i.stock) c.self.view_is,
-          );
-      owed = came.owed;
-      asked = came.asked;
-    }
+    let lists = c.replace-packets.result in
+    let none = ap (λ (b : Blank). b.packets.items) c.replace-packets.ensures.value ∙ c.requires.none.0 in
+    let bare = ap (λ (b : Blank). home b.spares) c.replace-packets.ensures.value ∙ c.requires.none.1 in
+    let round : RoundState = record { packets = r.new.packets.items; spares = r.new.spares.blocks; blocks = r.result.0 } in
+    let from = brought_by g.H.Supply.brought g.H.Supply.weights g.H.Supply.owed g.H.Supply.refusals c.args.more.now in
+    let to = brought_by g.H.Supply.brought g.H.Supply.weights g.H.Supply.owed g.H.Supply.refusals r.new.more in
+    let whole = came_whole from to (home c.self.inside.pool) (home r.new.pool + r.result.0) c.self.inside.pool lists.spares lists.packets.items _ none bare r.ensures.came in
+    subst (λ (x : RoundState). Came from to c.args.self.now.home (home r.new.pool + x.blocks) (λ h. weighed h c.args.self.now.stock) (λ h. weighed h r.new.pool.blocks + weights_of x h)) (sym (round_is g c))
+    (subst (λ (i : IntakeState). Came from to i.home (home r.new.pool + r.result.0) (λ h. weighed h i.stock) (λ h. weighed h r.new.pool.blocks + weights_of round h)) c.self.view_is
+    (came_read from to _ _ _ r.new.pool round whole))
+
+pub returns-clause-takes : goal.returns-clause-takes
+returns-clause-takes g c =
+    let r = c.read_more-blocks in
+    subst (λ (x : RoundState). Takes c.args.self.now.blocks c.args.self.now.taken r.new.pool.taken 0 x.blocks) (sym (round_is g c))
+    (subst (λ (i : IntakeState). Takes i.blocks i.taken r.new.pool.taken 0 r.result.0) c.self.view_is r.ensures.takes)
+
+pub returns-clause-same : goal.returns-clause-same
+returns-clause-same g c =
+    let i = c.self.inside in
+    subst (λ (s : IntakeState). (c.read_more-blocks.new.pool.made ≡ s.blocks) × (i.budget ≡ s.budget) × (i.empties ≡ s.empties) × (i.pauses ≡ s.pauses)) c.self.view_is
+    (c.read_more-blocks.ensures.made, refl, refl, refl)
+
+pub returns-clause-budget : goal.returns-clause-budget
+returns-clause-budget g c = subst (λ (s : IntakeState). (1 ≤ s.budget) × (s.budget ≤ 4096)) c.self.view_is (c.self.invariant.2, c.self.invariant.3)
+
+none_kept : {A : Type 0} {x : A} {o : Option A} → o ≡ Some x → o ≡ None → ⊥
+none_kept e n = cc
+
+pub unreachable-requires : goal.unreachable-requires
+unreachable-requires g c = none_kept (c.read_more-blocks.ensures.lacking c.in-Lacking.is).1 c.in_default.is

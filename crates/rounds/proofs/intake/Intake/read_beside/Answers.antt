@@ -1,7 +1,9 @@
-use Rattle.std.proofs.Common.{ℕ, ◌<◌, length, subst}
+use Rattle.std.proofs.Common.{ℕ, ◌+◌, ◌-◌, ◌^◌, ◌<◌, min, length, inr, ap, ◌∙◌, subst}
+use Rattle.std.proofs.Math.Nat.{le_trans}
 use Rattle.off_io.specs.Told.{Told}
 use Rattle.rounds.specs.Reading.{GivesRound, PassesRound}
-use Rattle.rounds.proofs.Pausing.{behind_whole}
+use Rattle.rounds.proofs.Pausing.{behind_whole, came_then}
+use Rattle.rounds.proofs.Counting.{rose_later}
 use Rattle.rounds.proofs.intake.Intake.read_beside.Goals as goal
 
 pub returns-in-Paused-clause-full : goal.returns-in-Paused-clause-full
@@ -27,3 +29,19 @@ pub returns-in-Paused-clause-fewer : goal.returns-in-Paused-clause-fewer
 returns-in-Paused-clause-fewer g c = λ not_full memory.
     let r = c.go_on in
     subst (λ (k : ℕ). length r.result.round.packets < k) c.read_up-ahead.ensures.same.1 (r.ensures.fills.fewer not_full)
+
+pub go_on-requires-clause-kept : goal.go_on-requires-clause-kept
+go_on-requires-clause-kept g c =
+    let w = c.in-Paused.ensures.fills.waits in
+    (w.at, (w.keeps, w.numbers))
+
+pub returns-in-Paused-clause-named : goal.returns-in-Paused-clause-named
+returns-in-Paused-clause-named g c = (came_then _ _ _ _ _ _ _ _ _ c.in-Paused.ensures.came c.go_on.ensures.came).named
+
+pub returns-in-Paused-clause-failed : goal.returns-in-Paused-clause-failed
+returns-in-Paused-clause-failed g c = λ fault. rose_later _ _ _ c.in-Paused.ensures.fills.later (c.go_on.ensures.fills.failed fault)
+
+pub returns-in-Paused-clause-paused : goal.returns-in-Paused-clause-paused
+returns-in-Paused-clause-paused g c =
+    let r = c.go_on.ensures in
+    inr (r.paused ∙ ap (λ (n : ℕ). min (n + 1) (2 ^ 64 - 1)) c.read_up-ahead.ensures.same.3, λ counts. le_trans (c.in-Paused.ensures.refused counts) r.came.asked)

@@ -1,6 +1,10 @@
-use Rattle.std.proofs.Common.{subst}
+use Rattle.std.proofs.Common.{◌≡◌, ◌+◌, ◌≤◌, refl, subst}
+use Rattle.block_pool.specs.PoolState.{home, weighed}
+use Rattle.rounds.specs.RoundOf.{brought_by, Came, Takes}
+use Rattle.rounds.specs.Weights.{weights_of}
+use Rattle.rounds.proofs.Counting.{came_read}
 use Rattle.rounds.specs.Filling.{reached, FillsWhole}
-use Rattle.rounds.specs.RoundsState.{IntakeState}
+use Rattle.rounds.specs.RoundsState.{IntakeState, RoundState}
 use Rattle.rounds.proofs.Pausing.{unread_whole}
 use Rattle.rounds.proofs.intake.Intake.read_into.Goals as goal
 
@@ -21,3 +25,26 @@ returns-clause-fills g c =
     let from = reached g.S.Source.left g.S.Source.faults c.args.reader.now in
     let to = reached g.S.Source.left g.S.Source.faults r.new.reader in
     subst (λ (s : IntakeState). FillsWhole s.blocks s.budget from to r.new.packets.items r.result.1) c.self.view_is r.ensures.fills
+
+pub returns-clause-came : goal.returns-clause-came
+returns-clause-came g c =
+    let r = c.read_records-blocks in
+    let from = brought_by g.H.Supply.brought g.H.Supply.weights g.H.Supply.owed g.H.Supply.refusals c.args.more.now in
+    let to = brought_by g.H.Supply.brought g.H.Supply.weights g.H.Supply.owed g.H.Supply.refusals r.new.more in
+    let round : RoundState = record { packets = r.new.packets.items; spares = r.new.spares.blocks; blocks = r.result.0 } in
+    subst (λ (i : IntakeState). Came from to i.home (home r.new.pool + r.result.0) (λ h. weighed h i.stock) (λ h. weighed h r.new.pool.blocks + weights_of round h)) c.self.view_is
+    (came_read from to _ _ _ r.new.pool round r.ensures.came)
+
+pub returns-clause-same : goal.returns-clause-same
+returns-clause-same g c =
+    let i = c.self.inside in
+    subst (λ (s : IntakeState). (c.read_records-blocks.new.pool.made ≡ s.blocks) × (i.budget ≡ s.budget) × (i.empties ≡ s.empties) × (i.pauses ≡ s.pauses)) c.self.view_is
+    (c.read_records-blocks.ensures.made, refl, refl, refl)
+
+pub returns-clause-takes : goal.returns-clause-takes
+returns-clause-takes g c =
+    let r = c.read_records-blocks in
+    subst (λ (i : IntakeState). Takes i.blocks i.taken r.new.pool.taken 0 r.result.0) c.self.view_is r.ensures.takes
+
+pub returns-clause-budget : goal.returns-clause-budget
+returns-clause-budget g c = subst (λ (s : IntakeState). (1 ≤ s.budget) × (s.budget ≤ 4096)) c.self.view_is (c.self.invariant.2, c.self.invariant.3)

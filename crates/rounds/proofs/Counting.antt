@@ -1,0 +1,128 @@
+-- What a round that is read counts, step by step, over plain numbers.
+use Rattle.std.proofs.Common.{◌≡◌, ◌+◌, ◌-◌, ◌^◌, ◌<◌, ◌≤◌, ℕ, List, [], ◌∷◌, ◌++◌, length, length-append, min, ◌⊎◌, inl, inr, ap, subst, arith}
+use Rattle.block_pool.specs.PoolState.{PoolState, home, weighed}
+use Rattle.off_io.specs.Faults.{Rose}
+use Rattle.offload_model.specs.Need.{need_of}
+use Rattle.gro.specs.declared.slot.Slot.{Slot as Held}
+use Rattle.gro.specs.Slots.{weighed_slots}
+use Rattle.gro.proofs.Weights.{weighed_last}
+use Rattle.reading.proofs.Laying.{weighed_none}
+use Rattle.skb.specs.SkbState.{weighed_in}
+use Rattle.rounds.specs.RoundOf.{at_hand, Brought, Came, Takes}
+use Rattle.rounds.specs.RoundsState.{RoundState}
+use Rattle.rounds.specs.Weights.{weights_of}
+
+-- ---- its blocks are among those that were made
+
+pub fits_type : {n k m : ℕ} → n ≤ k → k ≡ m → m ≤ 65536 → n < 2 ^ 32
+fits_type a b c = omega arith
+
+pub fits_out : {old made : ℕ} (mid count used : ℕ) → mid + count ≡ old → old + used ≡ made → made ≤ 65536 → used + count < 2 ^ 32
+fits_out mid count used a b c = omega arith
+
+pub fits_bare : (used n made : ℕ) → used + need_of n ≤ made → used + need_of (n - 0) ≤ made
+fits_bare used n made fits = let e : n ≡ n - 0 = omega arith in subst (λ (k : ℕ). used + need_of k ≤ made) e fits
+
+-- all are home or the round's, so no record lacks any
+pub all_home : {old made : ℕ} (new blocks mid count used : ℕ) → new + blocks + 0 ≡ mid + (used + count) + 0 → mid + count ≡ old → old + used ≡ made → new + blocks ≡ made
+all_home new blocks mid count used a b c = omega arith
+
+pub none_lacking : {new need made : ℕ} (blocks : ℕ) → new + blocks ≡ made → new < need → blocks + need ≤ made → ⊥
+none_lacking blocks a b c = omega arith
+
+-- ---- how many were taken
+
+pub takes_then : {made mid : ℕ} (now from to used count after : ℕ) → mid ≡ made → now ≡ min (from + count) (2 ^ 64 - 1) → from ≤ now → Takes mid now to (used + count) after → Takes made from to used after
+takes_then now from to used count after same taken least t = record {
+  within = omega (arith, t.within);
+  taken = omega (arith, t.taken, t.least.0, t.least.1);
+  least = (omega (arith, t.least.0), omega (arith, t.least.1));
+  most = omega (arith, t.most);
+}
+
+pub takes_last : {made mid : ℕ} (now from to before after : ℕ) → mid ≡ made → after ≤ made → before ≤ after → now ≡ min (from + (after - before)) (2 ^ 64 - 1) → from ≤ now → now + before ≤ from + after
+    → now ≤ to → to + after ≤ now + mid → Takes made from to before after
+takes_last now from to before after same within more taken least most rose last = record {
+  within = within;
+  taken = omega arith;
+  least = (more, omega arith);
+  most = omega arith;
+}
+
+pub taken_more : {now new : ℕ} (from before after count : ℕ) → before ≤ after → now ≡ min (from + (after - before)) (2 ^ 64 - 1) → new ≡ min (now + count) (2 ^ 64 - 1)
+    → new ≡ min (from + (after + count - before)) (2 ^ 64 - 1)
+taken_more from before after count more a b = omega arith
+
+pub most_more : {new : ℕ} (now from before after count : ℕ) → now + before ≤ from + after → new ≡ min (now + count) (2 ^ 64 - 1) → new + before ≤ from + (after + count)
+most_more now from before after count a b = omega arith
+
+-- ---- one packet more
+
+pub one_more : {A : Type 0} (ps qs : List A) (p : A) → qs ≡ ps ++ p ∷ [] → length qs ≡ length ps + 1
+one_more ps qs p e = omega (arith, ap length e, length-append ps (p ∷ []))
+
+pub size_more : {k n m budget : ℕ} → k ≡ n + 1 → m ≡ n → m < budget → k ≤ budget
+size_more a b c = omega arith
+
+pub room_more : {k budget : ℕ} (n room room' : ℕ) → k ≡ n + 1 → budget ≤ n + room → room ≤ room' + 1 → budget ≤ k + room'
+room_more n room room' a b c = omega arith
+
+pub came_one : (from to : Brought) (used count : ℕ) (pool pool' spares spares' : PoolState) (ps qs : List Held) (p : Held) → qs ≡ ps ++ p ∷ [] → home pool' + count + from.count ≡ home pool + to.count
+    → ((h : ℕ → ℕ) → weighed h pool'.blocks + weighed_in h p.skb + weighed h spares'.blocks + from.weights h ≡ weighed h pool.blocks + weighed h spares.blocks + to.weights h)
+    → from.owed + from.count ≤ to.owed + to.count → from.refusals ≤ to.refusals
+    → Came from to (home pool + used) (home pool' + (used + count)) (at_hand pool ps spares) (at_hand pool' qs spares')
+came_one from to used count pool pool' spares spares' ps qs p e sum named owed asked = record {
+  sum = omega (arith, sum);
+  named = λ h. omega (arith, named h, ap (weighed_slots h) e, weighed_last h ps p);
+  owed = owed;
+  asked = asked;
+}
+
+-- ---- what stays
+
+pub few_still : {k n budget : ℕ} → k ≡ n → n < budget → k ≤ budget
+few_still a b = omega arith
+
+-- what lies at hand weighs the same
+pub hand_same : (pool pool' spares spares' : PoolState) (ps qs : List Held) (h : ℕ → ℕ) → qs ≡ ps → weighed h pool'.blocks ≡ weighed h pool.blocks → weighed h spares'.blocks ≡ weighed h spares.blocks
+    → at_hand pool' qs spares' h ≡ at_hand pool ps spares h
+hand_same pool pool' spares spares' ps qs h e a b = omega (arith, ap (weighed_slots h) e)
+
+pub rose_later : (before mid now : ℕ) → before ≤ mid → Rose mid now → Rose before now
+rose_later before mid now a b = omega arith
+
+-- ---- what came home
+
+-- the same blocks at hand, packets and spares together
+pub came_read : (from to : Brought) (old now : ℕ) (w : (ℕ → ℕ) → ℕ) (pool : PoolState) (round : RoundState) → Came from to old now w (λ h. weighed h pool.blocks + weighed_slots h round.packets + weighed h round.spares)
+    → Came from to old now w (λ h. weighed h pool.blocks + weights_of round h)
+came_read from to old now w pool round came = record {
+  sum = came.sum;
+  named = λ h. omega (arith, came.named h);
+  owed = came.owed;
+  asked = came.asked;
+}
+
+-- what was home and a round's goes on as these
+pub came_on : (from to : Brought) (old mid new before after : ℕ) (w v x p q : (ℕ → ℕ) → ℕ) → Came from to old mid w v → new + after ≡ mid + before → ((h : ℕ → ℕ) → x h + q h ≡ v h + p h)
+    → Came from to (old + before) (new + after) (λ h. w h + p h) (λ h. x h + q h)
+came_on from to old mid new before after w v x p q came sum named = record {
+  sum = omega (arith, came.sum, sum);
+  named = λ h. omega (arith, came.named h, named h);
+  owed = came.owed;
+  asked = came.asked;
+}
+
+-- ---- one list behind another
+
+-- all go where there is room for all
+moved_all : (new left old had : ℕ) {made : ℕ} → new + left ≡ old + had → (left ≡ 0) ⊎ (new ≡ made) → old + had ≤ made → left ≡ 0
+moved_all new left old had sum (inl none) room = none
+moved_all new left old had sum (inr full) room = omega arith
+
+pub home_moved : (new left old had : PoolState) → home new + home left ≡ home old + home had → (home left ≡ 0) ⊎ (home new ≡ old.made) → home old + home had ≤ old.made → home new ≡ home old + home had
+home_moved new left old had sum all room = omega (arith, sum, moved_all (home new) (home left) (home old) (home had) sum all room)
+
+pub weighed_moved : (h : ℕ → ℕ) (new left old had : PoolState) → home new + home left ≡ home old + home had → (home left ≡ 0) ⊎ (home new ≡ old.made) → home old + home had ≤ old.made
+    → weighed h new.blocks + weighed h left.blocks ≡ weighed h old.blocks + weighed h had.blocks → weighed h new.blocks ≡ weighed h old.blocks + weighed h had.blocks
+weighed_moved h new left old had sum all room weighs = omega (arith, weighs, weighed_none h left.blocks (moved_all (home new) (home left) (home old) (home had) sum all room))

@@ -1,0 +1,34 @@
+use Rattle.std.proofs.lemmas.Bool.{false≢true}
+use Rattle.std.proofs.Common.{ap, ◌∙◌, subst}
+use Rattle.block_pool.specs.PoolState.{home, weighed}
+use Rattle.rounds.specs.RoundOf.{brought_by, Came}
+use Rattle.rounds.specs.RoundsState.{IntakeState}
+use Rattle.rounds.proofs.Pausing.{came_then}
+use Rattle.rounds.proofs.intake.Intake.bring_rest.Goals as goal
+
+pub returns-then-has_ended-clause-came : goal.returns-then-has_ended-clause-came
+returns-then-has_ended-clause-came g c = c.loop.invariant.came
+
+pub returns-then-home-rest-clause-came : goal.returns-then-home-rest-clause-came
+returns-then-home-rest-clause-came g c = c.loop.invariant.came
+
+pub returns-then-has_ended-clause-all : goal.returns-then-has_ended-clause-all
+returns-then-has_ended-clause-all g c = λ e. absurd (false≢true e)
+
+pub loop-preserved : goal.loop-preserved
+loop-preserved g c =
+    let i = c.loop.invariant in
+    let b = c.bring-came in
+    let v = c.self.view_is in
+    let from = brought_by g.H.Supply.brought g.H.Supply.weights g.H.Supply.owed g.H.Supply.refusals c.loop.more in
+    let to = brought_by g.H.Supply.brought g.H.Supply.weights g.H.Supply.owed g.H.Supply.refusals b.new.self in
+    let step : Came from to (home c.self.inside.pool) (home b.new.pool) (λ h. weighed h c.self.inside.pool.blocks) (λ h. weighed h b.new.pool.blocks) =
+    record { sum = b.ensures.sum; named = b.ensures.named; owed = b.ensures.owed; asked = b.ensures.asked } in
+    record {
+      came = came_then _ _ _ _ _ _ _ _ _ i.came (subst (λ (s : IntakeState). Came from to s.home (home b.new.pool) (λ h. weighed h s.stock) (λ h. weighed h b.new.pool.blocks)) v step);
+      blocks = b.ensures.same.0 ∙ ap (λ (s : IntakeState). s.blocks) v ∙ i.blocks;
+      taken = b.ensures.same.1 ∙ ap (λ (s : IntakeState). s.taken) v ∙ i.taken;
+      budget = ap (λ (s : IntakeState). s.budget) v ∙ i.budget;
+      empties = ap (λ (s : IntakeState). s.empties) v ∙ i.empties;
+      pauses = ap (λ (s : IntakeState). s.pauses) v ∙ i.pauses;
+    }
