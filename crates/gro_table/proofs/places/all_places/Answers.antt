@@ -1,4 +1,7 @@
 use Rattle.std.proofs.Common.{◌≡◌, ◌+◌, ◌<◌, ◌^◌, ℕ, List, length, map, sym, subst, arith}
+use Rattle.std.specs.List.{AllByRecursion}
+use Rattle.std.proofs.lemmas.List.{length-map}
+use Rattle.frame_runs.specs.Chains.{indices}
 use Rattle.frame_runs.specs.declared.run.Run.{Run}
 use Rattle.gro_table.specs.Build.{pieces_in}
 use Rattle.frame_runs.specs.Engine.{IsChain}
@@ -25,6 +28,17 @@ places_of-requires-clause-more c =
     (length-run l e c.requires.together r
     (subst (IsChain (map packet_of l.slots.items) e.next.items) (sym c.index.ensures)
     (all_at (IsChain (map packet_of l.slots.items) e.next.items) e.runs.items c.loop-i.i r c.requires.together.are.each lt)))
+
+pub places_of-requires-clause-inside : goal.places_of-requires-clause-inside
+places_of-requires-clause-inside c =
+    let e = c.args.engine.now in
+    let l = c.args.list.now in
+    let lt : c.loop-i.i < length e.runs.items = omega (arith, c.loop-i-test.true, c.loop-i.invariant.end) in
+    let r : Run = c.index.result.now in
+    let chain = subst (IsChain (map packet_of l.slots.items) e.next.items) (sym c.index.ensures)
+    (all_at (IsChain (map packet_of l.slots.items) e.next.items) e.runs.items c.loop-i.i r c.requires.together.are.each lt) in
+    subst (λ (z : List ℕ). AllByRecursion (λ (k : ℕ). k < length l.slots.items) (indices z r)) (sym c.deref.ensures.value)
+    (subst (λ (n : ℕ). AllByRecursion (λ (k : ℕ). k < n) (indices e.next.items r)) (length-map l.slots.items packet_of) chain.inside)
 
 pub returns-clause-places : goal.returns-clause-places
 returns-clause-places c =

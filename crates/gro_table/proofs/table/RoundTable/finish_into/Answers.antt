@@ -1,7 +1,8 @@
-use Rattle.std.proofs.Common.{List, subst, ap, ◌∙◌}
+use Rattle.std.proofs.Common.{List, subst, ap, sym, ◌∙◌}
 use Rattle.gro_table.specs.declared.item.Item.{Item}
 use Rattle.gro_table.specs.declared.packet.Packet.{Packet}
-use Rattle.gro_table.specs.Table.{TableState, AreItemsFrom, no_table}
+use Rattle.gro_table.specs.declared.packet_list.PacketList.{PacketList}
+use Rattle.gro_table.specs.Table.{TableState, AreItemsFrom, IsTable, no_table}
 use Rattle.gro_table.proofs.Tables.{table_none, slots_none, no_runs}
 use Rattle.gro_table.proofs.Finishing.{items_account, items_ready, received_merged, received_count, received_shared, received_least}
 use Rattle.gro_table.proofs.table.RoundTable.finish_into.Goals as goal
@@ -39,3 +40,8 @@ returns-clause-none c =
     ap (λ (z : List (List Packet)). record { runs = z; limit = 0; received = 0; above = 0; segs = c.self.inside.segs })
     (no_runs c.build_items.new.list c.clear.new.self c.clear.ensures.ready.none)
     ∙ ap (λ (t : TableState). no_table t.segs) c.self.view_is
+
+pub invariant_of-self : goal.invariant_of-self
+invariant_of-self c =
+    let t = c.self.inside in
+    subst (λ (l : PacketList). IsTable l t.engine t.limit t.received t.above t.count) (sym c.in_err-build_items.ensures.same.0) c.self.invariant
