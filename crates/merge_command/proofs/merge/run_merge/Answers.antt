@@ -8,6 +8,7 @@ use Rattle.command_answers.proofs.Behind.{no_file, head_failed, whole_given}
 use Rattle.merge_command.proofs.BackAgain.{lawful_options, no_file_back, head_failed_back, whole_back}
 use Rattle.command_answers.proofs.Prefixes.{no_file_prefix, head_failed_prefix, whole_prefix}
 use Rattle.command_rounds.proofs.Used.{merged_whole}
+use Rattle.merge_command.proofs.Leaving.{none_left_refused, none_left_unwritten}
 use Rattle.merge_command.proofs.merge.run_merge.Goals as goal
 
 pub returns-in-Err-clause-answered : goal.returns-in-Err-clause-answered
@@ -59,3 +60,9 @@ returns-in-Ok-write_file_head-clause-left g c =
       engine = λ ok. merged_whole Ethernet round_need c.args.options.blocks _ _ _ _ c.in-Ok.file c.in-Ok.ensures.given (r.engine ok);
       home = r.home;
     }
+
+pub returns-in-Err-clause-left : goal.returns-in-Err-clause-left
+returns-in-Err-clause-left g c = none_left_refused c.args.options.blocks _ c.args.engine.now _ _ c.requires.engine c.in-Err.fault c.refused.result c.refused.ensures.status
+
+pub returns-in-Err-write_file_head-clause-left : goal.returns-in-Err-write_file_head-clause-left
+returns-in-Err-write_file_head-clause-left g c = none_left_unwritten c.args.options.blocks _ c.args.engine.now _ _ c.requires.engine
