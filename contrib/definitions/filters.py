@@ -93,6 +93,11 @@ def filter_of(text):
     return tuple(instructions)
 
 
+def loads_length(program):
+    """Whether a program asks for the length of the frame."""
+    return any(one.code in (A_OF_LENGTH, X_OF_LENGTH) for one in program)
+
+
 def number_at(frame, at, size):
     """The big-endian number of so many bytes at a place, or None where they don't lie within the frame."""
     return int.from_bytes(frame[at : at + size], "big") if at + size <= len(frame) else None
