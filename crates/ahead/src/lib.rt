@@ -21,7 +21,7 @@
 //!
 //! Its parts: `ahead` (both calls) on `lists` (the lists that the side that reads takes).
 //!
-//! Tests: `beside_tests`, modules `beside_work` and `refused`.
+//! Tests: `engine_tests`, modules `reading_beside::beside_work` and `reading_beside::refused`.
 //!
 //! Why so:
 //!

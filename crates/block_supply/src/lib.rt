@@ -19,7 +19,8 @@
 //! let came = taker.bring(&rt, &mut pool);
 //! ```
 //!
-//! Tests: `round_tests`, module `sides`, `beside_tests`, module `pausing`, and `buffer_tests`, module `examples`.
+//! Tests: `engine_tests`, modules `rounds_in_turn::sides` and `reading_beside::pausing`, and `buffer_tests`, module
+//! `examples`.
 #![tactic(auto)]
 
 mod supply;

@@ -25,7 +25,7 @@
 //!
 //! Its parts: `totals` (of queues and taps, and how they add), `lines` (which tell them) and `laws`.
 //!
-//! Tests: `beside_tests`, module `totals`, and `word_tests`, module `examples`.
+//! Tests: `engine_tests`, module `reading_beside::totals`, and `word_tests`, module `examples`.
 //!
 //! Why so: it knows of no lane and of no packet in memory, so that what a command says of its totals is proved beside
 //! all that.

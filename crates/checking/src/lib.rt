@@ -34,7 +34,7 @@
 //!
 //! Its parts: `round` (a round, compared) and `capture` (round by round to the end of a capture).
 //!
-//! Tests: `beside_tests`, module `checks`.
+//! Tests: `engine_tests`, module `reading_beside::checks`.
 //!
 //! Why so:
 //!

@@ -19,7 +19,7 @@
 //! );
 //! ```
 //!
-//! Tests: `beside_tests`, modules `checks` and `pausing`.
+//! Tests: `engine_tests`, modules `reading_beside::checks` and `reading_beside::pausing`.
 //!
 //! Why so: it alone wants two sides and a crew, so that comparing and counting are proved beside these, and whoever
 //! checks round by round stands on neither.

@@ -21,7 +21,7 @@
 //! let code = status.code(); // 5
 //! ```
 //!
-//! Tests: `offload_tests`.
+//! Tests: `engine_tests`, module `whole_runs`.
 //!
 //! Why so:
 //!

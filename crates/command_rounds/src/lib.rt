@@ -10,7 +10,7 @@
 //! let home = rounds.home(); // options.blocks
 //! ```
 //!
-//! Tests: `offload_tests`.
+//! Tests: `engine_tests`, module `whole_runs`.
 #![tactic(auto)]
 
 mod made;

@@ -37,7 +37,7 @@
 //! (each packet leads to the next one of its flow), `counting` (a run's packets), `items` (a queue's) and `lane_totals`
 //! (a round's).
 //!
-//! Tests: `beside_tests`, module `examples`.
+//! Tests: `engine_tests`, module `reading_beside::examples`.
 //!
 //! Why so:
 //!

@@ -27,7 +27,8 @@
 //! let token = receive(&rt, &mut tokens, &bell);
 //! ```
 //!
-//! Tests: `beside_tests`, modules `driven` and `pausing`, and `buffer_tests`, module `examples`.
+//! Tests: `engine_tests`, modules `reading_beside::driven` and `reading_beside::pausing`, and `buffer_tests`, module
+//! `examples`.
 //!
 //! Why so:
 //!

@@ -8,7 +8,7 @@
 //! let written = write_items(&mut sink, &file, lane, &items);
 //! ```
 //!
-//! Tests: `round_tests`, module `writing`.
+//! Tests: `engine_tests`, module `rounds_in_turn::writing`.
 #![tactic(auto)]
 
 mod items;

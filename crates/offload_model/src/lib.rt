@@ -16,7 +16,7 @@
 //! Example: two packets with payloads `abcd` and `ef`, sequence numbers 1000 and 1004 and identifications 100 and 101
 //! become one record of n 2, m 4 and modes 0, whose frame carries `abcdef` (`rows_hold`).
 //!
-//! Tests: rows by computation in `specs/Rows`; `merge_tests` and `round_tests` compare the calls with it.
+//! Tests: rows by computation in `specs/Rows`; `merge_tests` and `engine_tests` compare the calls with it.
 //!
 //! Why so:
 //!

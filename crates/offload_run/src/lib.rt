@@ -40,7 +40,7 @@
 //! let code = status.code(); // 0 where all went well
 //! ```
 //!
-//! Tests: `offload_tests`.
+//! Tests: `engine_tests`, module `whole_runs`.
 //!
 //! Why so:
 //!

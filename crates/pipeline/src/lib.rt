@@ -73,7 +73,7 @@
 //! round and what is left, in one thread), `drive` (the first round, the two sides, and one thread where there can't be
 //! two), `crew` (all of that with who run lanes beside it) and `merge` (where each round is written).
 //!
-//! Tests: `beside_tests`, modules `driven` and `pausing`, and `round_tests`, module `lane_rows`.
+//! Tests: `engine_tests`, modules `reading_beside::driven`, `reading_beside::pausing` and `rounds_in_turn::lane_rows`.
 //!
 //! Why so:
 //!

@@ -53,7 +53,8 @@
 //! Its parts: `record` (a record's header judged, and its body read), `body` (bytes into blocks), `blocks` (blocks
 //! taken and marked, made a packet, and brought home). Who brings blocks home meanwhile is in `block_supply`.
 //!
-//! Tests: `round_tests`, modules `merging`, `jumbo` and `segments`, by the crates that read rounds and segments.
+//! Tests: `engine_tests`, modules `rounds_in_turn::merging`, `rounds_in_turn::jumbo` and `rounds_in_turn::segments`, by
+//! the crates that read rounds and segments.
 #![tactic(auto)]
 
 mod blocks;

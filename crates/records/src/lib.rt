@@ -15,7 +15,7 @@
 //! let written = write_record(&mut sink, &file, time, original, None, &segment);
 //! ```
 //!
-//! Tests: `round_tests`, modules `writing` and `segments`.
+//! Tests: `engine_tests`, modules `rounds_in_turn::writing` and `rounds_in_turn::segments`.
 #![tactic(auto)]
 
 mod buffer;

@@ -102,8 +102,8 @@
 //! are shared, `specs/Reading.antt` what each end of a round says of the capture's bytes, `specs/Benches.antt` when
 //! blocks may come home, and what is so once they have.
 //!
-//! Tests: `round_tests`, modules `frames`, `jumbo`, `lane_rows`, `long_runs`, `merging` and `sides`, and
-//! `beside_tests`, module `pausing`.
+//! Tests: `engine_tests`, modules `rounds_in_turn::frames`, `rounds_in_turn::jumbo`, `rounds_in_turn::lane_rows`,
+//! `rounds_in_turn::long_runs`, `rounds_in_turn::merging`, `rounds_in_turn::sides` and `reading_beside::pausing`.
 //!
 //! Why so:
 //!

@@ -27,7 +27,7 @@
 //! Its parts: `segment` (the type that segments, record by record) on `cut` (a record's packets written one by one, its
 //! blocks brought home) and `opening` (its offload header, taken off).
 //!
-//! Tests: `round_tests`, modules `segments` and `long_runs`.
+//! Tests: `engine_tests`, modules `rounds_in_turn::segments` and `rounds_in_turn::long_runs`.
 //!
 //! Why so:
 //!

@@ -1,5 +1,0 @@
-use Rattle.std.proofs.Common.{length}
-use Rattle.beside_tests.proofs.compared.spend.Given as goal
-
-abbrev pub decreases-loop-sole : goal.decreases-loop-sole
-decreases-loop-sole g l = length l.outcomes.soles

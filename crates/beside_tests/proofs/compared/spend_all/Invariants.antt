@@ -1,5 +1,0 @@
-use Rattle.std.proofs.Common.{length}
-use Rattle.beside_tests.proofs.compared.spend_all.Given as goal
-
-abbrev pub decreases-loop-clone : goal.decreases-loop-clone
-decreases-loop-clone g l = length l.kept.items

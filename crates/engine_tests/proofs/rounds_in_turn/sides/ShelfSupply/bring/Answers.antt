@@ -1,0 +1,23 @@
+use Rattle.std.proofs.Common.{arith, inl, inr}
+use Rattle.block_supply.proofs.Listing.{left_weighs}
+use Rattle.crossing.proofs.Shelves.{refill_weighs}
+use Rattle.engine_tests.proofs.rounds_in_turn.sides.ShelfSupply.bring.Goals as goal
+
+pub invariant_of-self : goal.invariant_of-self
+invariant_of-self g c = record {
+  few = elim c.refill.ensures.all [
+    | inl none ↦ omega (arith, none)
+    | inr full ↦ omega (arith, full, c.args.self.now.few, c.refill.ensures.sum, c.home.ensures.within)
+  ];
+  weighs = λ h.
+      omega (arith, c.args.self.now.weighs h, left_weighs h c.args.self.now.pool c.refill.new.from c.args.pool.now c.refill.new.self c.refill.ensures.moved);
+}
+
+pub returns-clause-named : goal.returns-clause-named
+returns-clause-named g c h =
+    omega (
+      arith,
+      c.args.self.now.weighs h,
+      left_weighs h c.args.self.now.pool c.refill.new.from c.args.pool.now c.refill.new.self c.refill.ensures.moved,
+      refill_weighs h c.args.self.now.pool.blocks c.refill.new.from.blocks c.args.pool.now.blocks c.refill.new.self.blocks c.refill.ensures.blocks,
+    )

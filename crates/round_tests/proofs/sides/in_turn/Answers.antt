@@ -1,4 +1,0 @@
-use Rattle.round_tests.proofs.sides.in_turn.Goals as goal
-
-pub read_shelved-last-requires-clause-ready : goal.read_shelved-last-requires-clause-ready
-read_shelved-last-requires-clause-ready g c = (c.read_shelved-read.ensures.full c.full-round-2.ensures.full.0).ready

@@ -1,4 +1,0 @@
-use Rattle.round_tests.proofs.working.crews.by_crew.Given as goal
-
-abbrev pub ghosts-by_crew_named : goal.ghosts-by_crew_named
-ghosts-by_crew_named g a = record { desk = a.errands.now }
