@@ -144,13 +144,13 @@ to_prove() {
   done < <(lines_below)
 }
 
-# What will be done, and about how long. From nothing a megabyte of sources takes 16 minutes of processor time.
+# What will be done, and about how long. From nothing a megabyte of sources takes 11 minutes of processor time.
 announce() {
   local count bytes by
   read -r count bytes < <(to_prove "$1" | awk '{ bytes += $2 } END { print NR, bytes + 0 }')
   by=$(rt version 2>/dev/null </dev/null | head -n 1)
   say "proving and building ${product##*/} with ${by:-rt}: $count of $(lines_below | wc -l) crates are new, changed, or stand on one that is"
-  say "from nothing that takes some $((bytes * 16 / 1000000 + 1)) minutes of processor time, by $(count_lanes) processors here; what this machine proved before is taken over, and a build that is interrupted goes on where it was"
+  say "from nothing that takes some $((bytes * 11 / 1000000 + 1)) minutes of processor time, by $(count_lanes) processors here; what this machine proved before is taken over, and a build that is interrupted goes on where it was"
 }
 
 # What each crate stands on, whether near or far, and the crate itself, lowest crate first: "NAME: NAME NAME ..".
