@@ -110,10 +110,6 @@ module _ {D : Type 0} where
   missing_open (None ∷ ps) h = let r = missing_open ps h.1 in omega (arith, r)
   missing_open (Some d ∷ ps) h = absurd (cc)
 
-  pub all_none_last : (ps : List (Option D)) → AllByRecursion (λ p. p ≡ None) ps → AllByRecursion (λ p. p ≡ None) (ps ++ None ∷ [])
-  all_none_last [] h = (refl, tt)
-  all_none_last (p ∷ ps) h = (h.0, all_none_last ps h.1)
-
   pub missing_last : (ps : List (Option D)) (p : Option D) → missing (ps ++ p ∷ []) ≡ missing ps + open_place p
   missing_last [] p = omega arith
   missing_last (q ∷ ps) p = let r = missing_last ps p in omega (arith, r)

@@ -10,7 +10,7 @@ use Rattle.crossbeam_queue.specs.Fifo.{Pushes, Pops, Forks, Merges, Learns}
 use Rattle.crossbeam_queue.proofs.Lists.{at_set, at_snoc, at_longer, at_last}
 use Rattle.errands.specs.declared.rule.Asked.{Asked}
 use Rattle.errands.specs.declared.rule.Slip.{Slip}
-use Rattle.errands.specs.Rule.{slip, blank, ClaimIn, one, times, claims, uses, used, Fits, IsIn, Kept, Known}
+use Rattle.errands.specs.Rule.{slip, blank, ClaimIn, one, claims, uses, used, Fits, IsIn, Kept, Known}
 
 off : false ≡ true → ⊥
 off e = true≢false (sym e)
@@ -204,14 +204,3 @@ module _ {T : Type 0} where
       split : (n < length v.log) ⊎ (length v.log ≤ n) → n < length v.log
       split (inl lt) = lt
       split (inr le) = let z = h v.number (omega (arith, le, e)) in let o = here v.number v.task size in absurd (omega (arith, z, o))
-
-  pub known_first : (v : Slip T) (n : ℕ) → n ≡ v.number → length v.task ≡ 1 → ((k : ℕ) → uses k v ≤ 1) → times n v.back ≡ 0
-  known_first v n e size h =
-      let o = here v.number v.task size in
-      let z = h v.number in
-      let t : times n v.back ≡ times v.number v.back = ap (λ (k : ℕ). times k v.back) e in
-      omega (arith, t, o, z)
-    where
-      here : (k : ℕ) (task : List T) → length task ≡ 1 → claims k k task ≡ 1
-      here k [] s = absurd (omega (arith, s))
-      here k (x ∷ xs) s = grind arith

@@ -1,7 +1,7 @@
 -- Laws of the sum and its fold.
 use Rattle.std.proofs.Common.{◌≡◌, ℕ, zero, suc, ◌+◌, ◌-◌, ◌*◌, ◌/◌, ◌%◌, ◌<◌, ◌≤◌, Bool, true, false, List, [], ◌∷◌, ◌++◌, length, refl, sym, ap, ◌∙◌, arith}
 use Rattle.std.specs.Prelude.{◌==◌}
-use Rattle.std.proofs.lemmas.Bool.{eqb-true, eqb-false, eq-eqb, ne_eqb}
+use Rattle.std.proofs.lemmas.Bool.{eqb-true, eqb-false, eq-eqb}
 use Rattle.inet_sum.specs.Sum.{word_sum, folded, fold_of, joined_fold}
 
 pub folded-zero : (n : ℕ) → folded n ≡ 0 → n ≡ 0
@@ -99,13 +99,6 @@ even_total xs ys a b even e g =
     sym (folded-add a b) ∙ ap (λ z. folded (z + folded b)) e ∙ ap (λ z. folded (fold_of xs + z)) g ∙ sym (fold-append_even xs ys even)
 
 -- ---- sums that are right
-
--- a number has the fold 65535 where it isn't 0 and 65535 divides it
-pub full_is : (n : ℕ) (b : Bool) → (b ≡ true → (n % 65535 ≡ 0) × (1 ≤ n)) → ((n % 65535 ≡ 0) → 1 ≤ n → b ≡ true) → b ≡ (folded n == 65535)
-full_is zero true to from = absurd (omega (arith, (to refl).1))
-full_is zero false to from = refl
-full_is (suc n) true to from = sym (eq-eqb _ _ (omega (arith, (to refl).0)))
-full_is (suc n) false to from = sym (ne_eqb _ _ (λ e. (let t : false ≡ true = from (omega (arith, e)) (omega arith) in absurd cc)))
 
 folded-least : (n : ℕ) → 1 ≤ n → 1 ≤ folded n
 folded-least zero h = absurd (omega arith)

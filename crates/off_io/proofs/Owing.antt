@@ -4,7 +4,7 @@ use Rattle.std.specs.Prelude.{OnOk, OnErr}
 use Rattle.std.specs.List.{flat_map}
 use Rattle.std.specs.Io.KnownBytes.{Appends}
 use Rattle.std.proofs.KnownBytes.{Appends-trans, Appends-nil}
-use Rattle.std.proofs.lemmas.List.{take_at, take_all, take_more, take-append-drop}
+use Rattle.std.proofs.lemmas.List.{take_all, take_more, take-append-drop}
 use Rattle.std.proofs.lemmas.Grind.{flat_map-append}
 use Rattle.off_io.specs.Content.{AppendsPrefix, Owes}
 use Rattle.off_io.proofs.Appending.{front_then, prefix_more}
@@ -17,10 +17,6 @@ Owes-less a b c all part rest p q = (p.0 ++ part, Appends-trans a b c p.0 part p
 
 pub Owes-none : (a b : Option (List ℕ)) (all : List ℕ) → Owes a b all [] → Appends a b all
 Owes-none a b all p = subst (Appends a b) (sym (append-nil p.0) ∙ p.2) p.1
-
-pub Owes-front : (a b : Option (List ℕ)) (all rest : List ℕ) → Owes a b all rest → AppendsPrefix a b all
-Owes-front a b all rest p =
-    (length p.0, subst (Appends a b) (sym (take_at p.0 rest (length p.0) refl) ∙ ap (take (length p.0)) p.2) p.1)
 
 -- a part of what is owed was written, and then the sink failed
 pub Owes-failed : (a b c : Option (List ℕ)) (all part rest : List ℕ) → Owes a b all (part ++ rest) → AppendsPrefix b c part → AppendsPrefix a c all

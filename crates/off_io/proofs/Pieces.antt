@@ -1,6 +1,6 @@
 -- Lists of bytes that are taken piece by piece.
 use Rattle.std.proofs.Common.{◌≡◌, ◌≤◌, ◌+◌, ◌-◌, ℕ, List, [], ◌++◌, length, take, drop, sym, ap, ◌∙◌, arith, Option, add-zero, append-nil}
-use Rattle.std.proofs.lemmas.List.{take-append-drop, take-take, drop-take, drop-drop, drop_all, length-drop, take_rest, length-take-le, take-append-le, length-append}
+use Rattle.std.proofs.lemmas.List.{take-append-drop, take-take, drop-take, length-take-le, take-append-le, length-append}
 use Rattle.std.proofs.Math.Seq.{take-append-add}
 use Rattle.std.proofs.KnownBytes.{Appends-trans, Consumes-trans}
 use borrow.Rule.Slice.PartMut.{put_mid, post_of}
@@ -15,17 +15,6 @@ take_add n m xs =
 
 pub wrote_more : (a b c : Option (List ℕ)) (bytes : List ℕ) (at n : ℕ) → Appends a b (take at bytes) → Appends b c (take n (drop at bytes)) → Appends a c (take (at + n) bytes)
 wrote_more a b c bytes at n p q = subst (Appends a c) (sym (take_add at n bytes)) (Appends-trans a b c _ _ p q)
-
--- what a read of n bytes at a place gives, and leaves
-pub read_front : (bytes : List ℕ) (at n : ℕ) (into : List ℕ) → take n into ≡ take n (take (length bytes - at) (drop at bytes)) → drop at bytes ≡ take n into ++ drop (at + n) bytes
-read_front bytes at n into same =
-    let e : take n into ≡ take n (drop at bytes) = rw (← take_rest bytes at) same in
-    rw (e, ← drop-drop n at bytes) (sym (take-append-drop n (drop at bytes)))
-
-pub none_left : (bytes : List ℕ) (at n : ℕ) → n ≡ 0 → length (take (length bytes - at) (drop at bytes)) ≡ 0 → drop (at + n) bytes ≡ []
-none_left bytes at n none empty =
-    let short : length (drop at bytes) ≡ 0 = rw (← take_rest bytes at) empty in
-    drop_all (at + n) bytes (omega (arith, length-drop at bytes))
 
 -- what was filled so far, after a read into the rest
 pub filled_take : (into piece : List ℕ) (at n : ℕ) → at ≤ length into → n ≤ length piece → take (at + n) (put_mid at (length into - at) into piece) ≡ take at into ++ take n piece

@@ -30,10 +30,6 @@ front_read xs ys buf count n size le split end =
           (ap (take n) split ∙ take_at f ys n same, sym (ap (drop n) split ∙ drop_at f ys n same))
     ]
 
--- a header is as long as was read
-pub front_length : (buf : List ℕ) (count : ℕ) → count ≤ length buf → length (take count buf) ≡ count
-front_length buf count le = length-take-le count buf le
-
 -- a list of refusals none of which stands
 pub not_first : (b : Bool) (kind : CapKind) (rest : Option CapKind) → (if b then Some kind else rest) ≡ None → (b ≡ false) × (rest ≡ None)
 not_first true kind rest e = absurd (none-some kind (sym e))

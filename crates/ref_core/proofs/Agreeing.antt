@@ -89,9 +89,6 @@ module _ (w : WeightState) (i : IsWeighed w) where
     refl,
   )
 
-  abbrev If_fresh : {S : Type 0} → Bool → S × Answer → S × Answer → S × Answer
-  If_fresh c p q = cond c p q
-
   shares : (o : Option Holding) (h k g : ℕ) → holding_of h ws ≡ o → IsNotBadGive (weights.shared w o h k g).1 → Same (sets.shared s (block_if o) k) (weights.shared w o h k g)
   shares None h k g e good = stays Unlawful
   shares (Some x) h k g e good = subst (λ y. Same (cond y (record s { pairs = pairs_of ws ++ (k, x.block) ∷ [] }, Done) (s, Unlawful)) (weights.shared w (Some x) h k g)) (sym (fresh_is k ws))
