@@ -31,9 +31,6 @@ made number sec frac original n m modes frame =
     record { packet = record { number = number; sec = sec; frac = frac; original = original; frame = frame }; n = n; m = m; modes = modes }
 
 module _ (p : Packet) (ps : List Packet) (layout : Layout) (sum : FoldAndLength) (bits : ℕ) (state : Progress) (r : IsRunOf layout sum bits state p (p ∷ ps)) where
-  within : layout.payload_at ≤ length p.frame
-  within = (laid p.frame layout r.shape).1
-
   pub laid_out : AreLaid 0 layout.headers layout.payload_at
   laid_out = (laid p.frame layout r.shape).0
 

@@ -1,21 +1,16 @@
 -- A frame that may be cut, and its segments.
-use Rattle.std.proofs.Common.{◌≡◌, ℕ, zero, suc, ◌+◌, ◌-◌, ◌*◌, ◌^◌, ◌<◌, ◌≤◌, List, [], ◌++◌, length, take, drop, sym, ap, ◌∙◌, arith}
-use Rattle.std.specs.Prelude.{◌==◌}
-use Rattle.std.specs.List.{refill}
-use Rattle.std.proofs.lemmas.List.{length-take, length-drop, drop_all, take_at}
-use Rattle.std.proofs.lemmas.Bool.{eqb-true, eqb-false}
+use Rattle.std.proofs.Common.{◌≡◌, ℕ, zero, suc, ◌+◌, ◌-◌, ◌*◌, ◌^◌, ◌<◌, ◌≤◌, List, length, drop, sym, arith}
+use Rattle.std.proofs.lemmas.List.{length-take, length-drop}
 use Rattle.frame_layout.specs.Headers.{AtHeaders}
 use Rattle.frame_layout.specs.Candidate.{IsLengthRight}
 use Rattle.frame_layout.specs.declared.layout.Layer.{Layer}
 use Rattle.frame_layout.specs.declared.layout.Layer.TheVariants.{Ip4, Udp}
 use Rattle.frame_layout.proofs.Lemmas.{IsPlaced, placed, headers_map}
 use Rattle.offload_model.specs.Mergeable.{IsLengthInRange}
-use Rattle.offload_model.specs.Merged.{is_fixed}
 use Rattle.offload_model.proofs.Filled.{Small}
-use Rattle.offload_model.proofs.Functions.{segment_is}
 use Rattle.offload_model.proofs.Fronts.{range_less}
 use Rattle.segment_rule.specs.declared.segmentation.Segmentation.{Segmentation}
-use Rattle.segment_rule.specs.Segmentations.{IsSegmentationOf, IsSegmentAt, segment_at, payload_at}
+use Rattle.segment_rule.specs.Segmentations.{IsSegmentationOf, payload_at}
 
 -- a right length is in range
 ranged : (f : List ℕ) → Small f → (l : Layer) (at : ℕ) → IsLengthRight f l at → IsLengthInRange (length f) l at
@@ -52,16 +47,3 @@ pub segment_ranges : (cut : Segmentation) (f : List ℕ) (i : ℕ) → Small f �
 segment_ranges cut f i small is =
     headers_map (range_less (cut.layout.payload_at + length (payload_at cut f i)) (length f) (omega (arith, payload_short cut f i, (places cut f small is).within)))
     cut.layout.headers (ranges cut f small is)
-
--- the segments are what the relation says
-pub segment_holds : (cut : Segmentation) (f : List ℕ) (i : ℕ) → Small f → IsSegmentationOf cut f → i < cut.n → IsSegmentAt cut f i (segment_at cut f i)
-segment_holds cut f i small is less =
-    let p : IsPlaced f cut.layout = places cut f small is in
-    segment_is cut.layout (is_fixed cut.modes cut.layout.headers) cut.n cut.m (i + 1 == cut.n) f i p.laid p.within small (segment_ranges cut f i small is)
-    (λ e. eqb-true (i + 1) cut.n e)
-    (λ e. let apart : i + 1 ≡ cut.n → ⊥ = eqb-false (i + 1) cut.n e in omega (arith, apart))
-
--- a list that is written whole
-pub refilled : (xs ws : List ℕ) → length ws ≡ length xs → refill (length xs) xs ws ≡ ws
-refilled xs ws same =
-    ap (λ z. take (length xs) (ws ++ z)) (drop_all (length ws) xs (omega arith)) ∙ take_at ws [] (length xs) same

@@ -5,7 +5,7 @@ use Rattle.std.specs.List.{range_with_len}
 use Rattle.pcap_io.specs.Capture.{Packet}
 use Rattle.pcap_io.specs.declared.off_head.OffHead2.{OffHead2}
 use Rattle.offload_model.specs.Edits.{with_edits, with_lengths_and_sums, put_flags, put_place}
-use Rattle.offload_model.specs.Frames.{segment_frame, IsSegment}
+use Rattle.offload_model.specs.Frames.{segment_frame}
 use Rattle.offload_model.specs.Merged.{Merged, is_fixed}
 use Rattle.offload_model.specs.Segments.{with_frame, IsCuttable, IsLawfulSuper}
 use Rattle.segment_rule.specs.declared.segmentation.Segmentation.{Segmentation}
@@ -36,9 +36,6 @@ segment_at cut f i = segment_frame cut.layout (is_fixed cut.modes cut.layout.hea
 
 abbrev pub payload_at : Segmentation → List ℕ → ℕ → List ℕ
 payload_at cut f i = take cut.m (drop (i * cut.m) (drop cut.layout.payload_at f))
-
-abbrev pub IsSegmentAt : Segmentation → List ℕ → ℕ → List ℕ → Type 0
-IsSegmentAt cut f i s = IsSegment cut.layout (is_fixed cut.modes cut.layout.headers) cut.n cut.m f i s
 
 -- segment i from the frame's headers and its own payload: identifications, sequence number and control bits by its
 -- place, and then lengths and sums
