@@ -1,9 +1,8 @@
 -- Who gives nothing, who gives twice, and how many blocks that is.
 use Rattle.std.proofs.Common.{◌≡◌, ℕ, ◌+◌, ◌≤◌, ◌⊎◌, inl, inr, refl, ap, ◌∙◌, subst, arith}
 use Rattle.std.specs.Prelude.{Option, None, Some}
-use Rattle.block_pool.specs.PoolState.{PoolState, home}
-use Rattle.block_pool.specs.PassState.{PassState}
-use Rattle.block_pool.specs.Giving.{GiverState, given_in, lying, Gave, GaveAll, LeavesNone, MayGive, PutOnce}
+use Rattle.block_pool.specs.PoolState.{home}
+use Rattle.block_pool.specs.Giving.{GiverState, given_in, lying, Gave, GaveAll, LeavesNone, MayGive}
 use Rattle.block_pool.proofs.Totals.{count_by_ones}
 
 -- by the weight 1 what lies there is counted
@@ -38,30 +37,13 @@ may_give_twice (Some g) y z a b =
 
 -- ---- nothing is left
 
--- by one step of the pool
-pub gave_once : (g k : GiverState) → PutOnce g k → GaveAll g k
-gave_once g k (inl put) = inl put.1
-gave_once g k (inr (stays, inl none)) = inl (ap home stays ∙ none.0)
-gave_once g k (inr (stays, inr full)) = inr (omega (arith, ap (λ (x : PassState PoolState). x.fulls) full))
-
 -- whatever it gave before
 pub gave_all_behind : (x y z : GiverState) → Gave x y → GaveAll y z → GaveAll x z
 gave_all_behind x y z a (inl none) = inl none
 gave_all_behind x y z a (inr full) = inr (omega (arith, a.fulls, full))
-
--- or gives afterwards
-pub gave_all_before : (x y z : GiverState) → GaveAll x y → Gave y z → GaveAll x z
-gave_all_before x y z (inl none) b = inl (omega (arith, none, gave_less y z b))
-gave_all_before x y z (inr full) b = inr (omega (arith, full, b.fulls))
 
 pub leaves_none_behind : (x y z : Option GiverState) → MayGive x y → LeavesNone y z → LeavesNone x z
 leaves_none_behind None y z a b = subst (λ u. LeavesNone u z) a b
 leaves_none_behind (Some g) y z a b =
     let m : LeavesNone (Some a.0) z = subst (λ u. LeavesNone u z) a.1 b in
     (m.0, m.1, gave_all_behind g a.0 m.0 a.2 m.2)
-
-pub leaves_none_before : (x y z : Option GiverState) → LeavesNone x y → MayGive y z → LeavesNone x z
-leaves_none_before None y z a b = subst (λ u. MayGive u z) a b
-leaves_none_before (Some g) y z a b =
-    let m : MayGive (Some a.0) z = subst (λ u. MayGive u z) a.1 b in
-    (m.0, m.1, gave_all_before g a.0 m.0 a.2 m.2)

@@ -1,8 +1,8 @@
 -- Each kind of step keeps the rule of the pool's queue.
-use Rattle.std.proofs.Common.{◌≡◌, ◌≢◌, ℕ, zero, suc, ◌+◌, ◌-◌, ◌<◌, List, [], ◌∷◌, ◌++◌, length, set, sym, refl, ap, ◌∙◌, ⊎_elim, arith}
+use Rattle.std.proofs.Common.{◌≡◌, ◌≢◌, ℕ, ◌+◌, ◌-◌, ◌<◌, List, [], ◌∷◌, ◌++◌, length, set, sym, refl, ap, ◌∙◌, ⊎_elim, arith}
 use Rattle.std.specs.List.{sum_by}
 use Rattle.std.proofs.lemmas.List.Sums.{sum_by-append, sum_by_push}
-use mathlib.Core.Option.{some, some-injective, some-ne-none}
+use mathlib.Core.Option.{some}
 use lib.ListN.{get_elem?}
 use Rattle.crossbeam_queue.specs.Fifo.{Pushes, Pops, Forks, Merges, Learns}
 use Rattle.crossbeam_queue.proofs.Lists.{at_set, at_snoc}
@@ -42,17 +42,6 @@ module _ {T : Type 0} where
       ⊎_elim (λ (here : (j ≡ port) × (w ≡ u)). let m = mine h (omega (arith, ap parts here.1, some_part)) in
       omega (arith, m, ap (made h) here.1))
       (λ (else : (j ≢ port) × (get_elem? views j ≡ some u)). others h j u else.0 else.1 some_part) (at_set views port j w u there)
-
-  only : (x v : Tally T) (port : ℕ) → get_elem? (x ∷ []) port ≡ some v → x ≡ v
-  only x v zero at = some-injective x v at
-  only x v (suc port) at = absurd (some-ne-none v (sym at))
-
-  pub begins : Kept {T = T} [] (tally 65536 [] [] [] ∷ [])
-  begins = (
-    refl,
-    (λ port v at none. absurd (omega (arith, ap parts (only (tally 65536 [] [] []) v port at), none))),
-    (λ h port v at some_part. omega (arith, ap (made h) (only (tally 65536 [] [] []) v port at))),
-  )
 
   -- a push while the pool is made, by the pass that has all parts
   pub fills : (n port : ℕ) (v : Tally T) (x : T) → v.parts ≡ 65536

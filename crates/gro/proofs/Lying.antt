@@ -1,10 +1,8 @@
 -- Packets in a list whose heads are shared, or whose blocks nobody else holds.
-use Rattle.std.proofs.Common.{◌≡◌, ℕ, zero, suc, ◌+◌, ◌*◌, ◌<◌, ◌≤◌, Bool, true, false, List, [], ◌∷◌, ◌++◌, length, map, get_or, set, slice_range, reverse, refl, sym, ap, ◌∙◌, subst, arith}
-use Rattle.std.proofs.lemmas.List.{reverse-append}
+use Rattle.std.proofs.Common.{◌≡◌, ℕ, zero, suc, ◌+◌, ◌<◌, ◌≤◌, true, false, List, [], ◌∷◌, ◌++◌, length, map, get_or, set, slice_range, refl, sym, ap, ◌∙◌, subst, arith}
 use Rattle.block_weight.specs.WeightRule.{full_weight}
 use Rattle.raw_block.specs.Views.{PartState}
 use Rattle.pcap_io.specs.Capture.{Packet}
-use Rattle.frags.specs.Account.{every, counted, at_home, of_holder}
 use Rattle.frags.specs.Holders.{block}
 use Rattle.frags.specs.PieceList.{AreWhole, least_weight, bytes_of}
 use Rattle.frags.specs.declared.pieces.Piece.{Piece}
@@ -12,7 +10,7 @@ use Rattle.frags.specs.declared.holder.Holder.{Holder}
 use Rattle.frags.specs.declared.holder.Holder.TheVariants.{Sole, Part}
 use Rattle.skb.specs.SkbState.{SkbState, buffer_bytes, head_least, is_sole, IsLent}
 use Rattle.gro.specs.declared.slot.Slot.{Slot}
-use Rattle.gro.specs.Slots.{packet_of, IsHeld, AreHeld, counts_of, of_packets, AreAlone, AreShared, WeighAtLeast, with_head, AreLent}
+use Rattle.gro.specs.Slots.{packet_of, IsHeld, AreHeld, counts_of, AreAlone, AreShared, WeighAtLeast, with_head, AreLent}
 
 -- ---- one head
 
@@ -30,11 +28,6 @@ pub lent_weighs : (g h : Holder) → IsLent g h → is_sole g ≡ true → head_
 lent_weighs (Sole s) (Part p) l e = l.0
 lent_weighs (Part q) h l e = absurd cc
 lent_weighs (Sole s) (Sole r) l e = absurd l
-
-pub lent_is_same : (g h : Holder) → IsLent g h → is_sole g ≡ false → h ≡ g
-lent_is_same (Sole s) h l e = absurd cc
-lent_is_same (Part q) (Part p) l e = ap (λ (z : PartState). Part z) l
-lent_is_same (Part q) (Sole s) l e = absurd l
 
 pub whole_least : (ps : List Piece) → AreWhole ps → least_weight ps ≡ full_weight
 whole_least [] a = refl
@@ -62,10 +55,6 @@ lent_packets (s ∷ ss) qs e =
     ∙ ap (λ (z : Packet). z ∷ map packet_of e.1.0) (lent_packet s e.0 e.1.1.0)
     ∙ ap (λ (z : List Packet). packet_of s ∷ z) (lent_packets ss e.1.0 e.1.1.2)
 
-pub lent_length : (ps qs : List Slot) → AreLent ps qs → length qs ≡ length ps
-lent_length [] qs e = ap length e
-lent_length (s ∷ ss) qs e = omega (arith, ap length e.1.1.1, lent_length ss e.1.0 e.1.1.2)
-
 -- they hold as many blocks and parts
 pub lent_counts : (ps qs : List Slot) → AreLent ps qs → counts_of qs ≡ counts_of ps
 lent_counts [] qs e = ap counts_of e
@@ -85,31 +74,6 @@ lent_weigh [] qs e a = subst (WeighAtLeast full_weight) (sym e) tt
 lent_weigh (s ∷ ss) qs e a =
     subst (WeighAtLeast full_weight) (sym e.1.1.1)
     (omega (arith, lent_weighs s.skb.head e.0 e.1.1.0 a.0.head, whole_least s.skb.rest a.0.rest), lent_weigh ss e.1.0 e.1.1.2 a.1)
-
--- where each head was a part, they are the same
-pub lent_none : (ps qs : List Slot) → AreShared ps → AreLent ps qs → qs ≡ ps
-lent_none [] qs a e = e
-lent_none (s ∷ ss) qs a e =
-    e.1.1.1
-    ∙ ap (λ (z : List Slot). with_head s e.0 ∷ z) (lent_none ss e.1.0 a.1 e.1.1.2)
-    ∙ ap (λ (z : Holder). with_head s z ∷ ss) (lent_is_same s.skb.head e.0 e.1.1.0 a.0)
-
--- by blocks and marks they hold as much
-lent_mark : (g h : Holder) → IsLent g h → (bs : ℕ → Bool) (m : ℕ)
-    → (of_holder h).held (every bs) m + full_weight * (of_holder h).homes bs m ≡ (of_holder g).held (every bs) m + full_weight * (of_holder g).homes bs m
-lent_mark g (Sole r) l bs m = absurd l
-lent_mark (Part q) (Part p) l bs m = ap (λ (z : PartState). (of_holder (Part z)).held (every bs) m + full_weight * 0) l
-lent_mark (Sole s) (Part p) l bs m =
-    let u : counted (every bs) m p.life p.mark p.weight ≡ counted (every bs) m p.life s.mark full_weight = cc (l.0, l.3) in
-    let v : counted (every bs) m p.life s.mark full_weight ≡ full_weight * at_home bs m s.block s.mark = grind (arith, l.1) in
-    omega (arith, u, v)
-
-pub lent_marks : (ps qs : List Slot) → AreLent ps qs → (bs : ℕ → Bool) (m : ℕ)
-    → (of_packets qs).held (every bs) m + full_weight * (of_packets qs).homes bs m ≡ (of_packets ps).held (every bs) m + full_weight * (of_packets ps).homes bs m
-lent_marks [] qs e bs m = ap (λ (z : List Slot). (of_packets z).held (every bs) m + full_weight * (of_packets z).homes bs m) e
-lent_marks (s ∷ ss) qs e bs m =
-    ap (λ (z : List Slot). (of_packets z).held (every bs) m + full_weight * (of_packets z).homes bs m) e.1.1.1
-    ∙ omega (arith, lent_mark s.skb.head e.0 e.1.1.0 bs m, lent_marks ss e.1.0 e.1.1.2 bs m)
 
 -- ---- head by head
 
@@ -151,10 +115,6 @@ lent_all (suc i) (s ∷ ss) qs short e = (e.0, (e.1.0, (e.1.1.0, e.1.1.1, lent_a
 
 -- ---- lists put together
 
-pub alone_both : (ps qs : List Slot) → AreAlone ps → AreAlone qs → AreAlone (ps ++ qs)
-alone_both [] qs a b = b
-alone_both (p ∷ ps) qs a b = (a.0, alone_both ps qs a.1 b)
-
 pub alone_first : (ps qs : List Slot) → AreAlone (ps ++ qs) → AreAlone ps
 alone_first [] qs a = tt
 alone_first (p ∷ ps) qs a = (a.0, alone_first ps qs a.1)
@@ -163,19 +123,9 @@ pub alone_behind : (ps qs : List Slot) → AreAlone (ps ++ qs) → AreAlone qs
 alone_behind [] qs a = a
 alone_behind (p ∷ ps) qs a = alone_behind ps qs a.1
 
-pub alone_reverse : (ps : List Slot) → AreAlone ps → AreAlone (reverse ps)
-alone_reverse [] a = tt
-alone_reverse (p ∷ ps) a = subst AreAlone (sym (reverse-append (p ∷ []) ps)) (alone_both (reverse ps) (p ∷ []) (alone_reverse ps a.1) (a.0, tt))
-
 pub counts_both : (ps qs : List Slot) → counts_of (ps ++ qs) ≡ counts_of ps + counts_of qs
 counts_both [] qs = omega arith
 counts_both (p ∷ ps) qs = omega (arith, counts_both ps qs)
-
-pub counts_reverse : (ps : List Slot) → counts_of (reverse ps) ≡ counts_of ps
-counts_reverse [] = refl
-counts_reverse (p ∷ ps) =
-    let e = ap counts_of (reverse-append (p ∷ []) ps) in
-    omega (arith, e, counts_both (reverse ps) (p ∷ []), counts_reverse ps)
 
 -- what stands at a place doesn't depend on what would stand behind the end
 pub any_other : (ss : List Slot) (i : ℕ) (d e : Slot) → i < length ss → get_or ss i d ≡ get_or ss i e

@@ -1,8 +1,7 @@
 -- What packets' blocks weigh together, each by its name; and that a clone makes up no block.
-use Rattle.std.proofs.Common.{◌≡◌, ℕ, zero, suc, ◌+◌, ◌<◌, false, List, [], ◌∷◌, ◌++◌, length, map, get_or, set, reverse, refl, ap, ◌∙◌, arith}
+use Rattle.std.proofs.Common.{◌≡◌, ℕ, zero, suc, ◌+◌, ◌<◌, false, List, [], ◌∷◌, ◌++◌, length, map, get_or, set, refl, ap, ◌∙◌, arith}
 use Rattle.std.specs.Prelude.{Result, Ok, Err}
 use Rattle.std.specs.List.{sum_by}
-use Rattle.std.proofs.lemmas.List.{reverse-append}
 use Rattle.std.proofs.lemmas.List.Sums.{sum_by-cons}
 use Rattle.raw_block.specs.Views.{PartState}
 use Rattle.frags.specs.Account.{KeepsBlocks, both, every}
@@ -27,12 +26,6 @@ weighed_append h (p ∷ ps) qs = omega (arith, weighed_append h ps qs)
 -- one packet more at the end
 pub weighed_last : (h : ℕ → ℕ) (ps : List Slot) (p : Slot) → weighed_slots h (ps ++ p ∷ []) ≡ weighed_slots h ps + weighed_in h p.skb
 weighed_last h ps p = omega (arith, weighed_append h ps (p ∷ []))
-
-pub weighed_reverse : (h : ℕ → ℕ) (ps : List Slot) → weighed_slots h (reverse ps) ≡ weighed_slots h ps
-weighed_reverse h [] = refl
-weighed_reverse h (p ∷ ps) =
-    let e = ap (weighed_slots h) (reverse-append (p ∷ []) ps) in
-    omega (arith, e, weighed_last h (reverse ps) p, weighed_reverse h ps)
 
 -- one whose buffer weighs the same
 pub weighed_set : (h : ℕ → ℕ) (i : ℕ) (ps : List Slot) (d q : Slot) → i < length ps

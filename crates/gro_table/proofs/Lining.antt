@@ -143,10 +143,6 @@ module _ (l : PacketList) (e : Engine) (a : AreTogether l e) where
   inside_all [] b = tt
   inside_all (k ∷ ks) b = (omega (arith, b.0, long, length-map slots packet_in), inside_all ks b.1)
 
-  pub inside_slots : (ks : List ℕ) → AllByRecursion (λ k. k < length (map packet_in slots)) ks → AllByRecursion (λ k. k < length slots) ks
-  inside_slots [] b = tt
-  inside_slots (k ∷ ks) b = (omega (arith, b.0, length-map slots packet_in), inside_slots ks b.1)
-
   -- all sums are the same
   pub same_sums : (f : Held → ℕ) → totals f (held_in l e) ≡ total f hs
   same_sums f =

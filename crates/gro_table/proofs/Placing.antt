@@ -11,7 +11,7 @@ use Rattle.gro_table.specs.declared.item.Item.{Item}
 use Rattle.gro_table.specs.Build.{pieces_in}
 use Rattle.frame_runs.specs.Chains.{chain_of}
 use Rattle.gro_table.specs.Held.{count_of, counts_of}
-use Rattle.gro_table.specs.Places.{IsEmpty, AreEmpty, ArePlacesOf}
+use Rattle.gro_table.specs.Places.{ArePlacesOf}
 use Rattle.gro_table.specs.Lists.{held_of, ArePaired}
 use Rattle.gro_table.specs.Table.{AreItemsFrom}
 use Rattle.gro_table.specs.Totals.{total, totals}
@@ -52,10 +52,6 @@ pieces_step l next left k d paired h inside =
     let w = whole_at l.slots.items l.spares.items k d paired inside in
     ap (λ (z : List ℕ). pieces_in (chosen (lined_up l) z)) (chain_step next left k h)
     ∙ ap (λ (z : List Held). pieces_in (z ++ chosen (lined_up l) rest)) w.1
-
-pub empty_more : (ps : List Places) (p : Places) → AreEmpty ps → IsEmpty p → AreEmpty (ps ++ p ∷ [])
-empty_more [] p a e = (e, tt)
-empty_more (q ∷ qs) p a e = (a.0, empty_more qs p a.1 e)
 
 -- the run at a place comes first of those from there on
 pub run_first : (rs : List Run) (i : ℕ) (r : Run) → i < length rs → r ≡ get_or rs i r → drop i rs ≡ r ∷ drop (i + 1) rs

@@ -1,5 +1,5 @@
 -- A segment's headers before its payload, which stays where it lies.
-use Rattle.std.proofs.Common.{◌≡◌, ℕ, ◌+◌, ◌*◌, ◌<◌, ◌≤◌, ◌^◌, List, ◌++◌, length, take, drop, min, sym, ap, ◌∙◌, subst, arith, length-drop}
+use Rattle.std.proofs.Common.{◌≡◌, ℕ, ◌+◌, ◌*◌, ◌<◌, ◌≤◌, ◌^◌, List, ◌++◌, length, take, drop, min, sym, ap, ◌∙◌, subst, arith}
 use Rattle.std.proofs.lemmas.List.{length-take-le, take-append-le, drop-drop}
 use Rattle.inet_sum.specs.Stands.{FoldAndLength, StandsFor}
 use Rattle.frame_layout.specs.Headers.{AtHeaders, AreLaid}
@@ -29,9 +29,6 @@ module _ (g : SegmentsState) (i : ℕ) (from : Place) (ready : IsSegmentsReady g
 
   pub own_is : own ≡ payload_at cut f i
   own_is = first_n (bytes_at g.skb from) cut.m (min cut.m from.left) (ap (min cut.m) is.place.left) ∙ ap (take cut.m) is.bytes
-
-  pub few : from.left ≤ 262144
-  few = omega (arith, is.place.left, ap length is.bytes, length-drop (i * cut.m) (drop at f), length-drop at f, ready.short)
 
   module _ (head : List ℕ) (headers : head ≡ take at f) where
     pub head_long : length head ≡ at

@@ -1,6 +1,6 @@
 -- What lies from a place of a buffer's bytes on, and one slice of it less.
 use Rattle.std.proofs.Common.{◌≡◌, ℕ, zero, suc, ◌+◌, ◌-◌, ◌<◌, ◌≤◌, List, [], ◌++◌, length, get_or, take, drop, sym, ap, ◌∙◌, subst, arith, length-append, length-drop, append_assoc, ◌∷◌}
-use Rattle.std.proofs.lemmas.List.{drop-append-le, take-append-drop, drop_all, take_all, drop-drop, length-take-le, take_at}
+use Rattle.std.proofs.lemmas.List.{drop-append-le, take-append-drop, drop_all, take_all, drop-drop, take_at}
 use Rattle.inet_sum.specs.Stands.{FoldAndLength, StandsFor}
 use Rattle.frags.specs.PieceList.{bytes_of, piece_bytes}
 use Rattle.frags.specs.declared.pieces.Piece.{Piece}
@@ -42,14 +42,8 @@ module _ (s : SkbState) (p : Place) (n : ℕ) (b r : List ℕ) (is : IsPlace s p
   long = omega (arith, is.left, ap length here, length-append (drop p.at b) (bytes_of (drop p.slice s.rest)), length-drop p.at b)
 
   module _ (read : r ≡ take n (drop p.at b)) (fits : n ≤ length b - p.at) where
-    pub size : length r ≡ n
-    size = ap length read ∙ length-take-le n (drop p.at b) (omega (arith, fits, length-drop p.at b))
-
     -- all of it
     module _ (all : p.at + n ≡ length b) where
-      ended : Place
-      ended = record { slice = p.slice + 1; at = 0; left = p.left - n }
-
       whole : r ≡ drop p.at b
       whole = read ∙ take_all n (drop p.at b) (omega (arith, all, length-drop p.at b))
 

@@ -6,7 +6,7 @@ use Rattle.std.specs.Io.KnownBytes.{Appends}
 use Rattle.std.proofs.lemmas.List.{drop_at, drop-drop}
 use Rattle.std.proofs.Math.Seq.{take-append-add}
 use Rattle.off_io.specs.Content.{AppendsPrefix, Owes}
-use Rattle.off_io.proofs.Owing.{Owes-all, Owes-less, Owes-failed, Owes-none}
+use Rattle.off_io.proofs.Owing.{Owes-all, Owes-less, Owes-failed}
 use Rattle.net_bytes.specs.declared.order.Order.{Order}
 use Rattle.pcap_io.specs.Written.{rec_bytes}
 use Rattle.skb.specs.SkbState.{buffer_bytes}
@@ -67,11 +67,6 @@ module _ (f : ℕ → List ℕ) (n : ℕ) where
   pub owes_failed : (i : ℕ) (a b c : Option (List ℕ)) (all : List ℕ) → i < n → Owes a b all (flat_map f (range_with_len i (n - i))) → AppendsPrefix b c (f i) → AppendsPrefix a c all
   owes_failed i a b c all less owes wrote =
       Owes-failed a b c all (f i) (flat_map f (range_with_len (i + 1) (n - (i + 1)))) (subst (Owes a b all) (first_of i less) owes) wrote
-
-  pub owes_none : (i : ℕ) (a b : Option (List ℕ)) (all : List ℕ) → n ≤ i → Owes a b all (flat_map f (range_with_len i (n - i))) → Appends a b all
-  owes_none i a b all past owes =
-      let k : n - i ≡ 0 = omega (arith, past) in
-      Owes-none a b all (subst (Owes a b all) (ap (λ (z : ℕ). flat_map f (range_with_len i z)) k) owes)
 
   pub owes_first : (a : Option (List ℕ)) → Owes a a (flat_map f (range_with_len 0 n)) (flat_map f (range_with_len 0 (n - 0)))
   owes_first a =
