@@ -202,12 +202,6 @@ module _ (blocks : ℕ) (options : Options) (from to : Place) (round : List Held
         (holds.0, holds.1) counted)
         (subst (λ (e : RoundEnd). Told a b (GivesRound blocks from to round e)) is told)
 
-    pub failed_given : (end : RoundEnd) → end ≡ rounds.Full → Told a b (GivesRound blocks from to round end) → Told a b (EndsBehind k blocks options from c c1 ends.NoMemory)
-    failed_given end is told =
-        Told-weaker a b (GivesRound blocks from to round rounds.Full) (EndsBehind k blocks options from c c1 ends.NoMemory)
-        (λ bytes left gives. no_memory ends.NoMemory bytes left refl (gives.0, gives.1))
-        (subst (λ (e : RoundEnd). Told a b (GivesRound blocks from to round e)) is told)
-
     exceeds_is : (need len : ℕ) (gone more : List ℕ) → length round < options.budget → lengths_at from gone ≡ map frame_length packets ++ len ∷ more → need ≡ round_need packets + need_of len
         → blocks < need
         → tally gone ≡ record { totals = totals_of options []; stop = AtRound 0 need }

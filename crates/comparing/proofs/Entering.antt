@@ -1,5 +1,5 @@
 -- Packets that are entered, flow by flow, and places that move on.
-use Rattle.std.proofs.Common.{◌≡◌, ℕ, ◌+◌, ◌<◌, inl, inr, Bool, true, false, cond, Option, Some, None, List, [], ◌∷◌, length, get_or, set, drop, refl, sym, ap, ◌∙◌, subst, arith, ◌-◌, ◌≤◌, map}
+use Rattle.std.proofs.Common.{◌≡◌, ℕ, ◌+◌, ◌<◌, inl, inr, Bool, true, false, cond, Option, Some, List, [], ◌∷◌, length, get_or, set, drop, refl, sym, ap, ◌∙◌, subst, arith, ◌-◌, ◌≤◌, map}
 use Rattle.std.proofs.Common.{length-set}
 use Rattle.std.specs.Option.{unwrap_or}
 use Rattle.std.specs.List.{filter}
@@ -75,9 +75,6 @@ all_entered ps f a = record {
   own = λ q. (a.first q).own;
 }
 
-pub all_left : (ps : List Packet) (f : KeptFlows) (q : Option (List ℕ)) → AreFlowsFrom ps 0 f → left_in ps f q ≡ filter (is_of q) ps
-all_left ps f q a = (a.first q).same
-
 -- ---- moving on
 
 pub moves_on : (f g : KeptFlows) (k : Option (List ℕ)) (at : ℕ) → g.next ≡ f.next
@@ -94,16 +91,6 @@ moves_on f g k at next up =
     not_key : (r : Option (List ℕ)) → (r ≡ k → ⊥) → (w : Bool) → key_eq k r ≡ w → key_eq k r ≡ false
     not_key r n true e = absurd (n (sym (key_eq_same k r e)))
     not_key r n false e = e
-
-pub stays : (f g : KeptFlows) (k : Option (List ℕ)) (at : ℕ) → g.next ≡ f.next → ((q : Option (List ℕ)) → get key_eq g.first q ≡ get key_eq f.first q) → get key_eq f.first k ≡ None → Moves f k at g
-stays f g k at next same none =
-    let long : length g.next.items ≡ length f.next.items = ap (λ z. length z.items) next in
-    let place : (r : Option (List ℕ)) → place_of g r ≡ place_of f r = λ r. ap (λ v. unwrap_or v (length g.next.items)) (same r) ∙ ap (λ z. unwrap_or (get key_eq f.first r) z) long in
-    record {
-      next = next;
-      own = inr (place k, ap (λ v. unwrap_or v (length f.next.items)) none);
-      others = λ r n. place r;
-    }
 
 drop_none : {A : Type 0} (n : ℕ) → drop {A = A} n [] ≡ []
 drop_none n = drop_all n [] (omega arith)

@@ -28,9 +28,6 @@ one_more now mid before more t e f = e ∙ ap (λ z. z ++ t ∷ []) f ∙ append
 -- ---- lanes of one kind
 
 module _ {L : Type 0} (D : L → L → Type 0) (E : ℕ → LaneTask → Type 0) where
-  pub parted_none : (xs : List L) → Parted D E 0 xs xs []
-  parted_none xs = record { did = λ i d lt in_xs a. absurd (omega (arith, lt)); rest = λ i d le. refl; size = refl }
-
   -- what came of the lane at a place stands there
   mine : (i : ℕ) (xs ys : List L) (y d : L) → i < length ys → D (get_or xs i d) y → D (get_or xs i d) (get_or (set ys i y) i d)
   mine i xs ys y d lt one = subst (D (get_or xs i d)) (sym (get_or-set_same ys i y d lt)) one

@@ -214,9 +214,3 @@ slots_from i ps slots s lt are is = slots_here i ps s (subst (λ (z : List Held)
   where
     next : (i : ℕ) → suc i ≡ i + 1
     next i = omega arith
-
--- and they are among all
-pub drop_counts : (i : ℕ) (ps : List Held) → counts_of (drop i ps) ≤ counts_of ps
-drop_counts zero ps = omega arith
-drop_counts (suc i) [] = omega arith
-drop_counts (suc i) (p ∷ ps) = omega (arith, drop_counts i ps)

@@ -11,18 +11,9 @@ each_at P k [] i d h lt = absurd (omega (arith, lt))
 each_at P k (x ∷ xs) zero d h lt = let e : k ≡ k + 0 = omega arith in subst (λ z. P z x) e h.0
 each_at P k (x ∷ xs) (suc i) d h lt = let e : suc k + i ≡ k + suc i = omega arith in subst (λ z. P z (get_or xs i d)) e (each_at P (suc k) xs i d h.1 (omega (arith, lt)))
 
-pub each_set : {A : Type 0} (P : ℕ → A → Type 0) (k : ℕ) (xs : List A) (i : ℕ) (y : A) → EachFrom P k xs → P (k + i) y → EachFrom P k (set xs i y)
-each_set P k [] i y h p = tt
-each_set P k (x ∷ xs) zero y h p = let e : k + 0 ≡ k = omega arith in (subst (λ z. P z y) e p, h.1)
-each_set P k (x ∷ xs) (suc i) y h p = let e : k + suc i ≡ suc k + i = omega arith in (h.0, each_set P (suc k) xs i y h.1 (subst (λ z. P z y) e p))
-
 pub each_map : {A : Type 0} (P Q : ℕ → A → Type 0) (k : ℕ) (xs : List A) → ((i : ℕ) (x : A) → P i x → Q i x) → EachFrom P k xs → EachFrom Q k xs
 each_map P Q k [] f h = tt
 each_map P Q k (x ∷ xs) f h = (f k x h.0, each_map P Q (suc k) xs f h.1)
-
-pub each_last : {A : Type 0} (P : ℕ → A → Type 0) (k : ℕ) (xs : List A) (y : A) → EachFrom P k xs → P (k + length xs) y → EachFrom P k (xs ++ y ∷ [])
-each_last P k [] y h p = let e : k + 0 ≡ k = omega arith in (subst (λ z. P z y) e p, tt)
-each_last P k (x ∷ xs) y h p = let e : k + length (x ∷ xs) ≡ suc k + length xs = omega arith in (h.0, each_last P (suc k) xs y h.1 (subst (λ z. P z y) e p))
 
 -- by places, and back from a list of which each place has it
 each_from : {A : Type 0} (P : ℕ → A → Type 0) (k : ℕ) (xs : List A) → ((i : ℕ) (d : A) → i < length xs → P (k + i) (get_or xs i d)) → EachFrom P k xs

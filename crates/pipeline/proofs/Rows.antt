@@ -12,13 +12,6 @@ pub none_known : {A : Type 0} (xs : List A) → length xs ≤ 0 → xs ≡ []
 none_known [] e = refl
 none_known (x ∷ xs) e = absurd (omega (arith, e))
 
-some_none : {A : Type 0} (x : A) (xs : List A) (X : Type 0) → x ∷ xs ≡ [] → X
-some_none x xs X e = absurd (omega (arith, ap length e))
-
-pub none_front : {A : Type 0} (xs ys : List A) → xs ++ ys ≡ [] → xs ≡ []
-none_front [] ys e = refl
-none_front (x ∷ xs) ys e = some_none x (xs ++ ys) (x ∷ xs ≡ []) e
-
 pub blocks_last : (xs : List (Option Parcel)) (x : Option Parcel) → blocks_of (xs ++ x ∷ []) ≡ blocks_of xs + blocks_of (x ∷ [])
 blocks_last [] x = omega arith
 blocks_last (None ∷ xs) x = blocks_last xs x

@@ -86,10 +86,6 @@ pub on_ok : {D E : Type 0} {P Q : Type 0} (done : Result D E) → (P → Q) → 
 on_ok (Ok d) step holds = step holds
 on_ok (Err e) step holds = tt
 
-pub lends_same : (g : Option GiverState) → IsLent g → Lends g g
-lends_same None lent = refl
-lends_same (Some g) lent = (g, refl, record { pool = refl; pass = (refl, refl, refl); none = lent; least = omega arith; fulls = omega arith })
-
 -- what was given stays given
 pub given_least : (old new : Option GiverState) → Lends old new → given_by old ≤ given_by new
 given_least None new h = omega arith
@@ -122,20 +118,3 @@ brings_rest m n v w old new p q g g' sum named brings = record {
   room = omega (arith, brings.room, brings.count);
   same = brings.same;
 }
-
--- all of it came home
-pub brings_all : (n : ℕ) (w : (ℕ → ℕ) → ℕ) (old new : BenchState) (p q : PoolState) (g : Option GiverState) → Brings n w old new p q → BringsBeside n w old new p q g g
-brings_all n w old new p q g brings = brings_rest n n w w old new p q g g refl (λ h. refl) brings
-
--- and where there is nobody to give to
-pub brings_alone : (n : ℕ) (w : (ℕ → ℕ) → ℕ) (old new : BenchState) (p q : PoolState) (g : Option GiverState) → Lends None g → BringsBeside n w old new p q None g → Brings n w old new p q
-brings_alone n w old new p q g none brings =
-    let count : home q ≡ home p + n = omega (arith, brings.count, ap given_by none) in
-    record {
-      count = count;
-      named = λ h. omega (arith, brings.named h, ap (λ (z : Option GiverState). weights_given z h) none);
-      made = brings.made;
-      taken = brings.taken;
-      room = omega (arith, brings.room, count);
-      same = brings.same;
-    }
