@@ -25,6 +25,10 @@
  * offload_queue_rss. */
 #define OFFLOAD_VERSION 2
 
+/* How many bytes of stack suffice for a call: it was seen to use 28920 at most, with those of malloc (stack.c, over all
+ * samples, 2026-12-01). This isn't proved. */
+#define OFFLOAD_STACK 65536u
+
 #ifdef __cplusplus
 extern "C" {
 #endif
