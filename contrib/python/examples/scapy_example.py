@@ -1,7 +1,9 @@
 #!/usr/bin/env python3
 """What the library does to packets that scapy made: ten segments become one packet, and ten again.
 
-usage: contrib/python/scapy_example.py
+usage: PYTHONPATH=PREFIX/share/offload/python contrib/python/examples/scapy_example.py
+
+where contrib/install put the module below PREFIX. It has a folder of its own, since Python looks for modules beside a script first.
 """
 import io
 
