@@ -105,10 +105,13 @@ take_released() {
 }
 
 # Has `product` name a file that was built from these sources, here or, where it was never built here, elsewhere; builds it where there is none.
+# With OFFLOAD_RELEASED set it is what release/ has, and nothing else.
 find_product() {
-  is_built && return
+  [ -z "${OFFLOAD_RELEASED-}" ] && is_built && return
   if is_of_these "$released" || take_released; then
     product=$released
+  elif [ -n "${OFFLOAD_RELEASED-}" ]; then
+    refuse "release/ has no ${product##*/} that was built from these sources; contrib/release makes it"
   else
     build_in_turn
   fi
