@@ -17,6 +17,8 @@ class Cause(NamedTuple):
     advice: str
 
 
+AT_SENDER = "captured at its sender? capture elsewhere, or after ethtool -K IF"
+
 # In the order in which they are told: what is asked of a packet alone, and then of it and the run before it.
 CAUSES = {
     "cut": Cause("cut short", "capture whole packets: tcpdump -s 0"),
@@ -25,9 +27,9 @@ CAUSES = {
     "other": Cause("another layout", "nothing: TCP and UDP merge, plain, in VXLAN to port 4789 and in GRE"),
     "padding": Cause("bytes behind the IP packet", "nothing: padding of a short frame, or a trailer"),
     "empty": Cause("no payload", "nothing: acknowledgments and the like pass as they came"),
-    "length": Cause("length wrong", "a sender's own capture? elsewhere, or after ethtool -K IF tso off gso off"),
+    "length": Cause("length wrong", f"{AT_SENDER} tso off gso off"),
     "flags": Cause("TCP flags", "nothing: with others than ACK, PSH and FIN it passes as it came"),
-    "sum": Cause("sum wrong", "a sender's own capture? elsewhere, or after ethtool -K IF tx off; or tcprewrite -C"),
+    "sum": Cause("sum wrong", f"{AT_SENDER} tx off; tcprewrite -C mends a file"),
     "first": Cause("first of its flow", "nothing: each run begins with a packet"),
     "behind": Cause("behind one that can't merge", "as for that one"),
     "pushed": Cause("behind PSH or FIN", "nothing: with it the sender ends a run"),
