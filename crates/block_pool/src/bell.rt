@@ -8,7 +8,9 @@ use std::thread::Parker;
 /// that it waits.
 #[derive(Drop)]
 pub struct Bell {
+    /// What the thread sleeps by.
     sleeper: Parker,
+    /// Whether the thread has said that it waits. Where it hasn't, a ring is a look and no more.
     waits: AtomicBool,
 }
 

@@ -22,9 +22,13 @@ use std::sync::{Arc, Wait};
 /// from.
 #[derive(Drop)]
 pub struct Giver {
+    /// Where the memory for lists of further givers comes from.
     alloc: Global,
+    /// Where lists go, and where others take them.
     pool: Arc<ListPool>,
+    /// The right to put lists there. It has taken none.
     pass: ListPass,
+    /// The blocks that weren't given yet.
     list: Pool,
     // Of who takes the lists, if it may sleep.
     bell: Option<Arc<Bell>>,

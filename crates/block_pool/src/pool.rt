@@ -14,8 +14,11 @@ use thiserror::Error;
 /// The blocks that are home, and how many were made and taken. Dropping it frees them.
 #[derive(Drop)]
 pub struct Pool {
+    /// The block that came home last stands at the end, and is taken first.
     blocks: Vec<Sole>,
+    /// How many blocks may be home: so many places are reserved, at most 65,536.
     made: u32,
+    /// How many blocks were taken since the pool was made. It stays at `2^64 - 1`.
     taken: u64,
 }
 

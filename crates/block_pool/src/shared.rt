@@ -39,8 +39,11 @@ const ALL_PARTS: u32 = 65_536;
 /// The items that are home, in a queue that threads share by `&`. Dropping it frees them.
 #[derive(Drop)]
 pub struct QueuePool<T: Drop> {
+    /// First in, first out: a take answers the item that is home for longest.
     queue: Items<T>,
+    /// How many items it was made with.
     made: u32,
+    /// How many items may be home at once, at least as many as were made.
     places: u32,
 }
 
@@ -63,11 +66,17 @@ impl<T: Drop> Model for QueuePool<T> {
 /// its parts with it, and no pass knows the pool whole from then on.
 #[derive(Drop)]
 pub struct QueuePass<T> {
+    /// The right to step the pool's queue. Proofs read there what this pass took and put.
     pass: Pass<T, Tally<T>>,
+    /// How many of the pool's 65,536 parts it has, at least 1. The pass that has all of them knows the pool whole.
     parts: u32,
+    /// The takes that were answered with an item.
     takes: u64,
+    /// The puts that brought an item home.
     puts: u64,
+    /// The takes that found none. It stays at `2^64 - 1`.
     empties: u64,
+    /// The puts that found all places taken. It stays at `2^64 - 1`.
     fulls: u64,
 }
 
@@ -101,6 +110,7 @@ impl<T> Model for QueuePass<T> {
 #[derive(Debug, Drop, Error)]
 #[error("nothing was home after {takes} takes")]
 pub struct Empty {
+    /// How many takes of its pass had been answered with an item by then.
     takes: u64,
 }
 

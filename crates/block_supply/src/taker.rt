@@ -19,14 +19,21 @@ const LISTS: u32 = 219;
 /// The end of the side that reads, which takes lists and gives none.
 #[derive(Drop)]
 pub struct Taker {
+    /// Of the lists without places that stand in for those that leave.
     alloc: Global,
+    /// The pool into which others give.
     pub(crate) lists: Arc<ListPool>,
+    /// The right to take lists there.
     pub(crate) pass: ListPass,
     // Of a list that found no place at hand: nothing in fact.
     pub(crate) left: Pool,
+    /// The pass is of that pool.
     pub ghost own: { IsOwn (arc_value lists) pass },
+    /// It has one part, and puts nothing.
     pub ghost alone: { (pass.parts ≡ 1) × (pass.made ≡ []) × (pass.put ≡ []) },
+    /// No more blocks are left than came with lists.
     pub ghost counted: { home left ≤ blocks_in pass.taken },
+    /// The same of each block, by any weight of the blocks' names.
     pub ghost weighs: { (h : ℕ → ℕ) → weighed h left.blocks ≤ weights_listed h pass.taken },
 }
 

@@ -4,7 +4,9 @@
 /// for, and no proof rests on it: the side that reads counts what it sends and what comes.
 #[derive(Clone, Copy)]
 pub struct Away {
+    /// Those that were sent and haven't ended.
     rounds: u32,
+    /// How many of their blocks are still to come, as lists or on shelves.
     out: u32,
     // Of the round that went last, those that come back only once it is written.
     last: u32,

@@ -7,7 +7,9 @@ use std::thread;
 /// Each side sleeps by its own. Whoever gives blocks back while a round is worked has that of the reader too.
 #[derive(Drop)]
 pub struct Bells {
+    /// Of the side that reads: each token rings it, and a list where that side has said that it waits.
     pub reader: Arc<Bell>,
+    /// Of the side that works: each round that is sent rings it.
     pub worker: Bell,
     // Whoever sets it first decides: the side that reads, that it begins; the other one, that it won't.
     begun: AtomicBool,

@@ -24,18 +24,31 @@ pub const SHELVES: usize = 3;
 /// rounds.
 #[derive(Drop)]
 pub struct Desk<W: Post + Drop> {
+    /// Where this side waits, and from where it wakes the other.
     pub(crate) post: W,
+    /// How many blocks there are in all. A shelf has as many places.
     pub(crate) blocks: u32,
+    /// This side's end of the ring by which tokens come.
     pub(crate) tokens: Consumer<Token>,
+    /// Those that came last in front. A round goes away with the first, where that is empty.
     pub(crate) shelves: VecDeque<Pool>,
+    /// This side's end of the pool of lists.
     pub(crate) taker: Taker,
+    /// The rounds and blocks that are out, by this side's own count.
     pub(crate) away: Away,
+    /// Set as a round is paused for want of blocks, until it goes away.
     pub(crate) paused: bool,
+    /// Set by a token, and never taken back.
     pub(crate) stopped: bool,
+    /// As many as contracts of the whole run say.
     pub ghost named: { blocks ≡ W.blocks },
+    /// The ring is the one that these name.
     pub ghost ringed: { IsOfRing W.ring tokens },
+    /// So is the pool of lists.
     pub ghost pooled: { arc_value taker.lists ≡ W.lists },
+    /// No more blocks lie on shelves than came with tokens.
     pub ghost counted: { shelved shelves.items ≤ homes_of (received tokens) },
+    /// The same of each block, by any weight of the blocks' names.
     pub ghost weighs: { (h : ℕ → ℕ) → weights_shelved h shelves.items ≤ weights_back h (received tokens) },
 }
 

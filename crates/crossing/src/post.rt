@@ -66,8 +66,11 @@ pub trait Post {
 /// The thread that reads, which sleeps until its bell rings.
 #[derive(Drop)]
 pub struct Sleeper<'a, R, N: Naming> {
+    /// By which it sleeps.
     rt: &'a R,
+    /// It sleeps by the reader's, and rings the worker's.
     bells: &'a Bells,
+    /// Whose ring and pool it is, for contracts alone.
     of: PhantomData<N>,
 }
 

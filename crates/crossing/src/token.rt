@@ -14,6 +14,7 @@ use std::sync::Wait;
 /// A shelf that comes back with the blocks of a round, and whether more rounds are wanted.
 #[derive(Drop)]
 pub struct Token {
+    /// Without the blocks that went back as lists.
     pub shelf: Pool,
     pub goes: bool,
 }

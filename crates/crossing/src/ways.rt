@@ -15,16 +15,25 @@ use std::sync::Arc;
 /// The ring of tokens and the pool of lists, both ends of each, before anything went by them.
 #[derive(Drop)]
 pub struct Ways {
+    /// Where the side that works puts tokens.
     pub told: Producer<Token>,
+    /// Where the side that reads takes them.
     pub tokens: Consumer<Token>,
+    /// Where the side that reads takes lists.
     pub taker: Taker,
+    /// Who gives them at the side that works.
     pub giver: Giver,
     // Of the side that reads.
     pub bell: Arc<Bell>,
+    /// Both ends are of one ring.
     pub ghost pair: { IsPair told tokens },
+    /// Both ends are of one pool of lists.
     pub ghost same: { giver.pool ≡ arc_value taker.lists },
+    /// No token was sent.
     pub ghost unused: { (sent told ≡ []) × (received tokens ≡ []) },
+    /// No list was taken.
     pub ghost untaken: { (taker.pass.taken ≡ []) × (home taker.left ≡ 0) },
+    /// No list was given, and there is none to give. It has all parts of the pool's pass but one.
     pub ghost ungiven: { (giver.pass.parts ≡ 65535) × (giver.pass.put ≡ []) × (home giver.list ≡ 0) },
 }
 

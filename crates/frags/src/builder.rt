@@ -11,7 +11,9 @@ use std::marker::Model;
 
 /// Pieces in order, and room for more of them, so that putting one behind takes no memory. It must be spent: finished.
 pub struct PieceBuilder {
+    /// With room behind them for those that are still to come.
     items: VecDeque<Piece>,
+    /// How many bytes the pieces have together, fewer than 2^32.
     size: usize,
 }
 

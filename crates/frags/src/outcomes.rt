@@ -12,7 +12,9 @@ use std::marker::Model;
 /// The Soles and receipts that were given back, in order of return. It must be spent: by `settle`, once no Sole is in
 /// it.
 pub struct Outcomes {
+    /// The blocks that nobody else holds.
     soles: Vec<Sole>,
+    /// One for each part that was given back while others held its block.
     receipts: Vec<Receipt>,
 }
 

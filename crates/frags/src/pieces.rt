@@ -25,15 +25,20 @@ use thiserror::Error;
 
 /// The bytes `from` to `to` of a part's block.
 pub struct Piece {
+    /// The piece's own hold on the block.
     pub part: Part,
+    /// Where its bytes begin in the block, below `to`.
     pub from: usize,
+    /// The place behind its last byte, at most 2048.
     pub to: usize,
 }
 
 /// A list of pieces of blocks that others may hold too, as one run of fewer than 2^32 bytes. It must be spent:
 /// released.
 pub struct Pieces {
+    /// In the order of their bytes. None is empty.
     pub(crate) items: VecDeque<Piece>,
+    /// How many bytes the pieces have together.
     pub(crate) size: usize,
 }
 

@@ -12,9 +12,13 @@ use std::marker::Model;
 
 /// A holder of a block beside others, by a part of its weight. It must be spent: released, claimed, joined or reunited.
 pub struct Part {
+    /// The block's address, and what proofs know the part to own of its life.
     pub(crate) share: Share<Bytes>,
+    /// From 1 to `FULL`. The block's word is what all parts of the life weigh together.
     pub(crate) weight: u64,
+    /// Where the block's memory came from: the last holder makes a box of the block with it.
     pub(crate) alloc: Global,
+    /// The Sole's as the life began, the same in all parts and receipts of the life.
     pub(crate) mark: u32,
 }
 
@@ -39,6 +43,7 @@ impl Model for Part {
 pub enum Released {
     /// The part was the last of its life.
     Last(Sole),
+    /// Others hold the block: that the part's weight was given back.
     Left(Receipt),
 }
 

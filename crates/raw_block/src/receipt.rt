@@ -7,8 +7,11 @@ use std::marker::Model;
 
 /// That so much weight of a life was given back. It must be spent: added, reunited or closed.
 pub struct Receipt {
+    /// What proofs know of the release. It has no bytes.
     pub(crate) given_back: GivenBack,
+    /// From 1 to `FULL - 1`: that of the released part, or of all whose receipts were added.
     pub(crate) weight: u64,
+    /// That of the parts of the life.
     pub(crate) mark: u32,
 }
 
@@ -75,7 +78,9 @@ impl Receipt {
 /// What the word of a life was at a failed claim.
 #[derive(Drop)]
 pub struct Sight {
+    /// What proofs know of that step. It has no bytes.
     pub(crate) seen: WordSeen,
+    /// What all parts of the life weighed together at that step, more than the part that claimed.
     pub(crate) total: u64,
 }
 

@@ -16,9 +16,13 @@ use std::marker::Model;
 /// A block that nobody else holds: the only one who may write its bytes.
 #[derive(Drop)]
 pub struct Sole {
+    /// The word, which nobody steps meanwhile, and the 2048 bytes behind it.
     pub(crate) block: Box<Block<Bytes>, Global>,
+    /// The block's number for proofs, the same through all of its lives. It has no bytes.
     pub(crate) name: Name,
+    /// Where the block's memory came from. The parts of its next life carry it.
     pub(crate) alloc: Global,
+    /// A number that whoever has the Sole may set, 0 in a new block. The parts of its next life carry it.
     pub(crate) mark: u32,
 }
 

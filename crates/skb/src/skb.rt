@@ -24,9 +24,14 @@ use std::marker::Model;
 /// A packet buffer: the bytes `from..to` of a head block, and pieces of other blocks after them. It must be spent:
 /// attached or released.
 pub struct Skb {
+    /// The block of the first bytes. Only one that is a Sole is written.
     pub(crate) head: Holder,
+    /// Where the head's bytes begin in its block. So many bytes before them are the headroom.
     pub(crate) from: usize,
+    /// The place behind the head's bytes, from `from` to 2048. What the block has behind it is the tailroom, where no
+    /// piece follows.
     pub(crate) to: usize,
+    /// The bytes behind the head's. With the head's they are fewer than 2^32.
     pub(crate) rest: Pieces,
 }
 

@@ -9,9 +9,13 @@ use std::collections::LinkedList;
 
 /// What a pass knows. No value of it is made.
 pub struct Tally<T> {
+    /// How many of the queue's 65,536 parts the pass has.
     pub parts: u32,
+    /// The items that the pool was made with, in order.
     pub made: LinkedList<T>,
+    /// The items that the pass took, in order, and behind them those of passes that were gathered into it.
     pub taken: LinkedList<T>,
+    /// The items that the pass put, in the same order.
     pub put: LinkedList<T>,
 }
 
