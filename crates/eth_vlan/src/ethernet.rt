@@ -12,6 +12,7 @@ use std::marker::Model;
 #[derive(Drop)]
 pub struct EthView<'a> {
     frame: &'a [u8],
+    /// Where the header begins in the frame, from 0.
     at: usize,
 }
 

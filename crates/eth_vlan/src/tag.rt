@@ -11,6 +11,7 @@ use std::marker::Model;
 #[derive(Drop)]
 pub struct TagView<'a> {
     frame: &'a [u8],
+    /// Where the tag's control information begins in the frame, from 0.
     at: usize,
 }
 

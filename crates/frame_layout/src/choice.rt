@@ -16,7 +16,9 @@ pub enum Choice {
     Fold,
     /// By the Toeplitz hash of addresses and ports, which is a place in a table of queues.
     Toeplitz {
+        /// The key under which addresses and ports are hashed.
         key: HashKey,
+        /// A flow's queue stands at its hash modulo the table's length, which is 1 to 128.
         table: ArrayVec<u8, 128>,
     },
 }

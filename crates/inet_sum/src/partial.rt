@@ -11,6 +11,7 @@ use std::marker::Model;
 /// The sum of some bytes: their fold, and how many they are. It stands for every list of bytes that has both.
 #[derive(Clone, Copy, Default)]
 pub struct Partial {
+    /// Of the bytes as big-endian words of 16 bits, the last one filled up with 0; not complemented.
     fold: u16,
     len: u32,
 }

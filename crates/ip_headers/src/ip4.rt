@@ -16,6 +16,7 @@ use std::marker::Model;
 #[derive(Drop)]
 pub struct Ip4View<'a> {
     frame: &'a [u8],
+    /// Where the header begins in the frame, from 0.
     at: usize,
 }
 

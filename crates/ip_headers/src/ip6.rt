@@ -13,6 +13,7 @@ use std::marker::Model;
 #[derive(Drop)]
 pub struct Ip6View<'a> {
     frame: &'a [u8],
+    /// Where the header begins in the frame, from 0.
     at: usize,
 }
 

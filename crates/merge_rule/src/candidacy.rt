@@ -8,8 +8,11 @@ use inet_sum::Partial;
 /// control bits.
 #[derive(Drop)]
 pub struct Candidacy {
+    /// None where the packet may not be merged.
     pub layout: Option<Layout>,
+    /// Of no bytes where there is no layout.
     pub payload: Partial,
+    /// 0 where there is no layout, and of a datagram.
     pub flags: u8,
 }
 

@@ -17,6 +17,7 @@ use pcap_io::FRAME_LIMIT;
 /// header whose identification stays, the lowest for the first.
 #[derive(Clone, Copy)]
 pub struct Progress {
+    /// In bytes, the headers once and all payloads.
     pub total: usize,
     pub is_open: bool,
     pub modes: u8,

@@ -11,10 +11,13 @@ const PATIENCE: u32 = 1_000_000;
 /// same time both meet the other: for tests that threads are threads.
 #[derive(Drop)]
 pub struct Meeting {
+    /// The tasks that are to meet.
     one: Who,
     other: Who,
+    /// Set as that task comes to the gate, before its work, and never taken back.
     one_is_here: AtomicBool,
     other_is_here: AtomicBool,
+    /// How many of the two saw the other come, from 0 to 2.
     met: AtomicU32,
 }
 

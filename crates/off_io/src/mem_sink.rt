@@ -17,11 +17,16 @@ use std::marker::Model;
 #[derive(Drop)]
 pub struct MemSink {
     bytes: Vec<u8>,
+    /// Whether all that was written is flushed; true while nothing is.
     is_flushed: bool,
+    /// How many bytes a write takes at most, at least 1.
     step: usize,
     fails: Vec<u64>,
+    /// The number of the next call. It stays at `2^64 - 1`.
     calls: u64,
+    /// How many calls failed. It stays at `2^64 - 1`.
     faults: u64,
+    /// How many writes were given up for want of memory. It stays at `2^64 - 1`.
     refused: u64,
 }
 

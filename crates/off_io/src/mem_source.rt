@@ -13,10 +13,14 @@ use std::marker::Model;
 #[derive(Drop)]
 pub struct MemSource {
     bytes: Vec<u8>,
+    /// The place of the next byte that is given.
     at: usize,
+    /// How many bytes a read gives at most, at least 1.
     step: usize,
     fails: Vec<u64>,
+    /// The number of the next call. It stays at `2^64 - 1`.
     calls: u64,
+    /// How many calls failed. It stays at `2^64 - 1`.
     faults: u64,
 }
 

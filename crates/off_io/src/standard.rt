@@ -15,6 +15,7 @@ use std::marker::Model;
 #[derive(Drop)]
 pub struct StdSource<R> {
     inner: R,
+    /// How many reads failed. It stays at `2^64 - 1`.
     faults: u64,
 }
 
@@ -56,6 +57,7 @@ impl<R: Read> Source for StdSource<R> {
 #[derive(Drop)]
 pub struct BufferedSource<R> {
     inner: BufReader<R>,
+    /// How many reads failed. It stays at `2^64 - 1`.
     faults: u64,
 }
 
@@ -117,7 +119,9 @@ impl<R: Read> Source for BufferedSource<R> {
 #[derive(Drop)]
 pub struct StdSink<W> {
     inner: W,
+    /// How many writes and flushes failed. It stays at `2^64 - 1`.
     faults: u64,
+    /// Whether all that was written is flushed; false before the first flush.
     is_flushed: bool,
 }
 
@@ -181,6 +185,7 @@ impl<W: Write> Sink for StdSink<W> {
 /// as of [`StdSink`].
 #[derive(Drop)]
 pub struct BufferedSink<W: Write + Drop> {
+    /// Std's buffer, as a sink that counts its faults and the writer's.
     sink: StdSink<BufWriter<W>>,
 }
 

@@ -13,6 +13,7 @@ use std::marker::Model;
 #[derive(Drop)]
 pub struct SureSource {
     bytes: Vec<u8>,
+    /// The place of the next byte that is given.
     at: usize,
 }
 

@@ -31,7 +31,9 @@ pub enum CapKind {
 #[derive(Clone, Copy, Debug, PartialEq, Eq)]
 pub struct CapFault {
     pub kind: CapKind,
+    /// In bytes from the file's start. A record's place is that of its header.
     pub offset: u64,
+    /// From 0, or from where the reader was told to begin.
     pub number: u64,
 }
 

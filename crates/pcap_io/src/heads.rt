@@ -18,20 +18,29 @@ pub enum Link {
 /// and the two fields after the version, unjudged.
 #[derive(Clone, Copy, Debug, PartialEq, Eq)]
 pub struct FileHead {
+    /// Of all numbers in the file header and in record headers.
     pub order: Order,
     pub nanos: bool,
+    /// Bytes 8 to 11, once the time zone, now reserved.
     pub zone: u32,
+    /// Bytes 12 to 15, once the accuracy of times, now reserved.
     pub sigfigs: u32,
 }
 
 /// A record header: time, captured and original length in bytes; and the record's number and its place in the file.
 #[derive(Clone, Copy, Debug, PartialEq, Eq)]
 pub struct RecHead {
+    /// The seconds of the packet's time, unjudged.
     pub sec: u32,
+    /// The fraction of a second, in the file header's unit, unjudged.
     pub frac: u32,
+    /// How many bytes of the record follow its header.
     pub captured: u32,
+    /// How many bytes the packet had on the wire. In link type 147 those of the offload header count too.
     pub original: u32,
+    /// From 0, or from where the reader was told to begin.
     pub number: u32,
+    /// Where the header begins, in bytes from the file's start.
     pub offset: u64,
 }
 

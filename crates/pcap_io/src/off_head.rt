@@ -26,9 +26,11 @@ pub const OFF_HEAD_LEN: usize = 12;
 #[derive(Clone, Copy, Debug, PartialEq, Eq)]
 pub struct OffHead {
     pub version: u8,
+    /// 0 for a single packet, 1 for a merged one, 2 for a tap's window.
     pub kind: u8,
     pub n: u16,
     pub m: u16,
+    /// A bit for each IP header, the lowest for the first, set where it is IPv4 with a fixed identification.
     pub modes: u8,
     pub lane: u8,
     pub number: u32,
@@ -83,11 +85,17 @@ pub const OFF_HEAD2_LEN: usize = 16;
 #[derive(Clone, Copy, Debug, PartialEq, Eq)]
 pub struct OffHead2 {
     pub version: u8,
+    /// 0 for a single packet, 1 for a merged one, 2 for a tap's window.
     pub kind: u8,
+    /// A bit for each IP header, the lowest for the first, set where it is IPv4 with a fixed identification.
     pub modes: u8,
+    /// The number of the queue, or of the tap whose window it is, from 0.
     pub lane: u8,
+    /// How many packets were merged: 1 of a single one, 0 of a window.
     pub n: u32,
+    /// How many bytes of payload the first packet has where several were merged, else 0.
     pub m: u32,
+    /// The number of the record, or of the first one that was merged, from 0.
     pub number: u32,
 }
 

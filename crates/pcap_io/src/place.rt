@@ -10,6 +10,7 @@ use crate::{CapFault, FileHead, Link, RecHead};
 /// Where in a capture a reader stands. A reader alone moves it; others may look.
 #[derive(Clone, Copy, Debug)]
 pub struct Place {
+    /// What the file header said. Record headers are read in its byte order.
     pub file: FileHead,
     pub link: Link,
     /// The number of the next record.

@@ -21,6 +21,7 @@ use off_io::{Failed, Feed, Source, read_full};
 /// source can be used again.
 #[derive(Drop)]
 pub struct CaptureReader<'s, S> {
+    /// The caller's. Its next bytes are those at `place`.
     source: &'s mut S,
     place: Place,
 }

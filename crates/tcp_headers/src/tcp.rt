@@ -17,6 +17,7 @@ use std::marker::Model;
 #[derive(Drop)]
 pub struct TcpView<'a> {
     frame: &'a [u8],
+    /// Where the header begins in the frame, from 0.
     at: usize,
 }
 

@@ -39,6 +39,7 @@ pub fn protocol(frame: &[u8], at: usize) -> u16
 #[derive(Drop)]
 pub struct GreView<'a> {
     frame: &'a [u8],
+    /// Where the header begins in the frame, from 0.
     at: usize,
 }
 

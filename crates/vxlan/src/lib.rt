@@ -35,6 +35,7 @@ pub const OLD_PORT: u16 = 8472;
 #[derive(Drop)]
 pub struct VxlanView<'a> {
     frame: &'a [u8],
+    /// Where the header begins in the frame, from 0.
     at: usize,
 }
 
