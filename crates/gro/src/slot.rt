@@ -7,10 +7,15 @@ use skb::Skb;
 
 /// A packet in a buffer, its time, its original length and its number. Its spares, where it has any, lie elsewhere.
 pub struct Slot {
+    /// The frame. Whoever merges it wants its first 200 bytes, or all of fewer, in the head.
     pub skb: Skb,
+    /// Its time in seconds, as the capture has it.
     pub sec: u32,
+    /// The fraction of a second, in the capture's unit.
     pub frac: u32,
+    /// Its length on the wire in bytes, of which the capture may have fewer.
     pub original: u32,
+    /// Its number in the capture, from 0.
     pub number: u32,
 }
 

@@ -26,10 +26,15 @@ use std::collections::VecDeque;
 /// What a run of packets comes to: a record that is to be written, with the number and the time of the run's first
 /// packet. It must be spent: its buffer and its outcomes.
 pub struct Item {
+    /// The packet that is alone, as it was, or the merged frame.
     pub skb: Skb,
+    /// That of the first packet in the capture, from 0.
     pub number: u32,
+    /// The first packet's time in seconds, as the capture has it.
     pub sec: u32,
+    /// The fraction of a second, in the capture's unit.
     pub frac: u32,
+    /// The length on the wire in bytes; of several packets that of the merged frame.
     pub original: u32,
     /// How many packets there are.
     pub n: u32,

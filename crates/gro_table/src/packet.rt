@@ -11,12 +11,19 @@ use skb::Skb;
 /// A packet in a buffer, its time and its original length, and two spare blocks that merging may need. It must be
 /// spent: received or released.
 pub struct Packet {
+    /// The frame. Whoever merges it wants its first 200 bytes, or all of fewer, in the head.
     pub skb: Skb,
+    /// The merged frame's head, where the packet is the first of several in a run.
     pub spare1: Sole,
+    /// Given back as it is.
     pub spare2: Sole,
+    /// Its time in seconds, as the capture has it.
     pub sec: u32,
+    /// The fraction of a second, in the capture's unit.
     pub frac: u32,
+    /// Its length on the wire in bytes, of which the capture may have fewer.
     pub original: u32,
+    /// Its number in the capture, from 0.
     pub number: u32,
 }
 

@@ -16,13 +16,16 @@ use std::collections::VecDeque;
 
 /// The two spare blocks of a packet.
 pub struct Spares {
+    /// The merged frame's head, where the packet is the first of several in a run.
     pub first: Sole,
+    /// Given back as it is.
     pub second: Sole,
 }
 
 /// Packets in the order in which they came: each in its slot, where an engine reads it, and its spares beside.
 pub struct PacketList {
     pub slots: Vec<Slot>,
+    /// The spares of each packet, at the index of its slot.
     pub spares: Vec<Spares>,
 }
 

@@ -32,14 +32,23 @@ use std::marker::Model;
 /// What it has received is told by a fact of every list of packets (`Received`): its runs are theirs, and hold all of
 /// them.
 pub struct RoundTable {
+    /// What was received in this round, with the spares.
     list: PacketList,
+    /// The runs, by index in the list, and which of them is the open one of each flow.
     engine: Engine,
+    /// Memory for items, which lives on from one round to the next.
     shelf: Shelf,
+    /// Where the memory of places and items comes from.
     alloc: Global,
+    /// How many packets this round may have.
     limit: u32,
+    /// How many packets a run may have.
     segs: u32,
+    /// How many packets were received in this round.
     received: u32,
+    /// The least number that the next packet may have: one more than the last one's.
     above: u64,
+    /// How many blocks and parts the table holds, the spares with them.
     count: usize,
 }
 

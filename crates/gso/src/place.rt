@@ -12,8 +12,11 @@ use skb::Skb;
 /// A byte of a buffer, by the slice that it is in, the head being the first; and how many bytes are left from it on.
 #[derive(Clone, Copy, Debug, PartialEq, Eq)]
 pub struct Place {
+    /// 0 is the head, and `i + 1` the buffer's slice `i`.
     pub slice: usize,
+    /// Where the byte is in that slice, from the slice's start.
     pub at: usize,
+    /// How many bytes the buffer has from there to its end.
     pub left: usize,
 }
 

@@ -19,8 +19,11 @@ use std::marker::Model;
 /// are put together, and by the place of their payload.
 #[derive(Drop)]
 pub struct Segments<'a> {
+    /// The merged frame, from its first header on.
     skb: &'a Skb,
+    /// How many segments there are, and how long the payload of each is.
     cut: &'a Segmentation,
+    /// Of the payload, segment by segment, as it was summed when the record was judged.
     sums: &'a Sums,
 }
 

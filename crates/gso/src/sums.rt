@@ -13,7 +13,9 @@ const KEPT: usize = 64;
 /// The sums of the first segments, and one of all bytes behind these.
 #[derive(Drop)]
 pub struct Sums {
+    /// One for each whole segment from the first, at most 64.
     pub(crate) parts: ArrayVec<Partial, 64>,
+    /// Of all bytes behind these: of a segment that isn't whole yet, or of all further ones.
     pub(crate) rest: Partial,
 }
 

@@ -35,6 +35,7 @@ pub(crate) enum Work {
 
 /// The packets that a record stands for, of which some were given. It must be spent: released.
 pub struct Cutter {
+    /// What is still to be given.
     work: Work,
 }
 

@@ -29,6 +29,7 @@ pub trait Works {
 /// The thread that calls, with no handle of threads: one lane after another. It gives nothing back.
 #[derive(Drop)]
 pub struct Alone<'a, G> {
+    /// Each lane passes it at point 0 before its work and at point 1 after it.
     pub gate: &'a G,
 }
 
@@ -46,7 +47,9 @@ impl<G: Gate> Works for Alone<'_, G> {
 /// had packets is worked the list goes back.
 #[derive(Drop)]
 pub struct Beside<'a, G, R> {
+    /// Each lane passes it at point 0 before its work and at point 1 after it.
     pub gate: &'a G,
+    /// By which the list goes back.
     pub rt: &'a R,
 }
 

@@ -33,16 +33,20 @@ use std::marker::Model;
 /// What rounds are worked with: it holds no block between them, and blocks come home to whoever is told. Memory is kept
 /// from round to round.
 pub struct Bench {
+    /// Where the memory of later rounds comes from.
     pub(crate) alloc: Global,
     // What came back, and where: used as a round ends. There are places for all blocks and for a clone's part of each.
     places: Vec<Returned>,
+    /// What packets, clones and taps give back as a round ends; empty between rounds.
     out: Outcomes,
     // Memory alone.
     pub(crate) packets: Packets,
     spares: Pool,
     // Idle between rounds. Those of a round that was worked are away until it ends.
     lanes: Lanes,
+    /// How many records a round may have, at most 4096.
     budget: u32,
+    /// How a round's work is divided, and what queues and taps are told.
     pub(crate) plan: LanePlan,
     // Whether a clone of each packet is kept beside the work of a round.
     pub(crate) keep: bool,

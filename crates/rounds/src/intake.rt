@@ -36,7 +36,9 @@ use std::marker::Model;
 /// The blocks of rounds, and who reads into them. Dropping it frees the blocks that are home.
 #[derive(Drop)]
 pub struct Intake {
+    /// Where the memory for lists of packets and pieces comes from.
     alloc: Global,
+    /// The blocks that are home. Its `made` counts those that are out too.
     pub(crate) pool: Pool,
     // The blocks of the record that is being read.
     hold: VecDeque<Sole>,
@@ -44,6 +46,7 @@ pub struct Intake {
     pub(crate) empties: u64,
     // How often a round that was read beside others was paused.
     pub(crate) pauses: u64,
+    /// How many records a round may have, from 1 to 4096.
     budget: u32,
 }
 

@@ -53,6 +53,7 @@ pub enum MergeEnd {
 pub enum Step {
     /// It was full and is written: the next one may be read.
     Goes,
+    /// No round follows.
     Ends(MergeEnd),
 }
 
@@ -198,6 +199,7 @@ impl Bench {
 /// Each round is written into a sink, behind this file header.
 #[derive(Drop)]
 pub struct RoundWriter {
+    /// Records are written in its byte order.
     pub file: FileHead,
 }
 

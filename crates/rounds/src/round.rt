@@ -17,6 +17,7 @@ use taps::TapClone;
 /// given up.
 pub struct Blank {
     pub(crate) packets: Packets,
+    /// With places for two blocks a packet, none of them taken.
     pub(crate) spares: Pool,
 }
 
@@ -56,9 +57,11 @@ impl Blank {
 
 /// The records of a round, in blocks. It must be spent: worked or dropped, by the rounds that read it.
 pub struct Round {
+    /// One for each record, in the order of the capture.
     pub(crate) packets: Packets,
     // Two blocks for each packet, which its need counts. Nothing reads them.
     pub(crate) spares: Pool,
+    /// How many blocks packets and spares have together.
     pub(crate) blocks: u32,
 }
 
@@ -109,12 +112,15 @@ impl Round {
 
 /// What the packets of a round come to. It must be spent: ended, by the rounds that worked it.
 pub struct Worked {
+    /// The packets and their runs queue by queue, and what each tap read.
     pub(crate) lanes: Lanes,
     // A clone of each packet, where they are kept.
     pub(crate) kept: Vec<TapClone>,
+    /// Those that weren't given to others. Nothing reads them.
     pub(crate) spares: Pool,
     // Whether others may hold blocks of it: taps, or who keeps clones.
     pub(crate) shared: bool,
+    /// How many blocks it has, the spares with them.
     pub(crate) blocks: u32,
 }
 
@@ -140,7 +146,9 @@ pub struct Rest {
     pub(crate) lanes: Lanes,
     pub(crate) kept: Vec<TapClone>,
     pub(crate) spares: Pool,
+    /// Whether others may hold blocks of it: taps, or who keeps clones.
     pub(crate) shared: bool,
+    /// How many blocks it has, the spares with them.
     pub(crate) blocks: u32,
 }
 
@@ -170,6 +178,7 @@ pub enum RoundEnd {
     Full,
     /// The capture has no more.
     End,
+    /// The capture is refused at the next record.
     Malformed(CapFault),
     /// With the next record it would need this many blocks, and there are fewer.
     PoolEmpty { need: u32 },
@@ -186,6 +195,7 @@ pub struct RoundRead {
 /// Why a read beside work was paused: a take found no list of blocks.
 #[derive(Clone, Copy, Debug, PartialEq, Eq)]
 pub struct Empty {
+    /// How many blocks the read had taken by then.
     pub(crate) takes: u64,
 }
 
@@ -202,7 +212,9 @@ impl Empty {
 /// spent: [`Intake::read_on`](crate::Intake::read_on) goes on behind that header.
 pub struct Paused {
     pub round: Round,
+    /// That record's body comes next from the source.
     pub(crate) head: RecHead,
+    /// How many blocks it had taken by then.
     pub empty: Empty,
 }
 
@@ -234,6 +246,7 @@ impl Paused {
 
 /// What was read beside the work of another round.
 pub enum ReadAhead {
+    /// It ended without a pause.
     Read(RoundRead),
     /// Blocks were wanted that weren't home, and no list of them was found.
     Paused(Paused),

@@ -18,6 +18,7 @@ pub struct TapClone {
     pub skb: Skb,
     /// Its time: seconds, and micro- or nanoseconds as the capture has them.
     pub sec: u32,
+    /// The fraction of a second, in the capture's unit.
     pub frac: u32,
     /// Its length on the wire, in bytes.
     pub original: u32,

@@ -31,6 +31,7 @@ pub struct TapTask<'a> {
 pub struct TapResult {
     /// The windows that aren't empty, or the want of memory for them.
     pub texts: Result<TapTexts, AllocError>,
+    /// The task's own, with what its clones left.
     pub outcomes: Outcomes,
 }
 

@@ -31,6 +31,7 @@ pub struct TapText<'a> {
     pub number: u32,
     /// Its time: seconds, and micro- or nanoseconds as the capture has them.
     pub sec: u32,
+    /// The fraction of a second, in the capture's unit.
     pub frac: u32,
     /// Its length on the wire, in bytes.
     pub original: u32,
@@ -58,7 +59,9 @@ impl TapText<'_> {
 /// The windows that a tap read, in the order of its clones. All their bytes stand in one vector.
 #[derive(Debug, Drop)]
 pub struct TapTexts {
+    /// Where each window's bytes stand, and what its record says.
     spans: Vec<Span>,
+    /// One window behind the other.
     bytes: Vec<u8>,
 }
 
