@@ -5,9 +5,13 @@ ghost use Rattle.cap_make.specs.Draws.{next_state as next_state_of, drawn as dra
 /// The draws of a record: its flow, its event, the length of its payload, and the state behind them.
 #[derive(Clone, Copy, Debug, PartialEq, Eq)]
 pub struct RecordDraws {
+    /// From 0 to 7.
     pub flow: u8,
+    /// From 0 to 15. At 12 the record is short, at 13 PSH is set, at 14 it is empty, at 15 its identification jumps.
     pub event: u8,
+    /// In bytes, at most 1,200.
     pub payload_len: u16,
+    /// From which the next record is drawn.
     pub state: u64,
 }
 

@@ -21,7 +21,9 @@ const PUSH_ACK: u8 = 0x18;
 #[derive(Drop)]
 pub struct Maker {
     state: u64,
+    /// That of the flow's next segment.
     sequences: [u32; FLOWS],
+    /// That of the flow's next segment, where it doesn't jump.
     identifications: [u16; FLOWS],
 }
 

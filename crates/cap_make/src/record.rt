@@ -13,7 +13,9 @@ pub const SIZE: usize = 1320;
 /// The bytes of a record, of which a front may be gone. Each header is pushed before what it carries.
 #[derive(Drop)]
 pub struct RecordBytes {
+    /// Filled from its end.
     bytes: [u8; SIZE],
+    /// Where the bytes begin that are there; they end with the array.
     from: usize,
 }
 

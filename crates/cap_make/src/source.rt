@@ -10,9 +10,13 @@ use std::marker::Model;
 /// Gives the bytes of a generated capture. It takes no memory and never fails: its count of faults is the constant 0.
 #[derive(Drop)]
 pub struct MadeSource {
+    /// Stands before the record with the number `number`.
     maker: Maker,
+    /// What is left of the file header, or of the record before; empty only at the end.
     buffer: RecordBytes,
+    /// How many records were made.
     number: u32,
+    /// How many the capture has.
     count: u32,
 }
 

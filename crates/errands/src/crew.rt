@@ -42,8 +42,11 @@ impl Naming for Brand {
 #[derive(Drop)]
 pub struct Reply<T: Drop, D: Drop, J: Job<T, D>, N: Naming> {
     done: D,
+    /// By which who asked learns what the task was.
     note: Note<T>,
+    /// By which job it was done, for contracts alone.
     of: PhantomData<J>,
+    /// At whose desk, for contracts alone.
     at: PhantomData<N>,
 }
 
@@ -62,8 +65,11 @@ impl<T: Drop, D: Drop, J: Job<T, D>, N: Naming> Model for Reply<T, D, J, N> {
 /// Who wakes whom, and whether the run is over.
 #[derive(Drop)]
 pub struct Bells {
+    /// Rung as an answer comes.
     asker: Parker,
+    /// One for each who runs tasks beside who asks, by index.
     runners: Vec<Parker>,
+    /// Set once no more is asked, and never taken back. Then who runs tasks ends as soon as none waits.
     closed: AtomicBool,
 }
 

@@ -16,6 +16,7 @@ use std::thread;
 /// The desk where tasks wait, which threads share by `&`.
 #[derive(Drop)]
 pub struct Errands<T: Drop> {
+    /// First in, first out.
     queue: Tasks<T>,
 }
 
@@ -30,7 +31,9 @@ impl<T: Drop> Model for Errands<T> {
 /// Who asks.
 #[derive(Drop)]
 pub struct Asker<T> {
+    /// The one pass that asks. Proofs read there what was asked, and which notes came back.
     pass: Pass<Asked<T>, Slip<T>>,
+    /// How many tasks were asked, and so the number of the next one.
     asked: u64,
 }
 
@@ -51,6 +54,7 @@ impl<T> Model for Asker<T> {
 /// Who takes tasks.
 #[derive(Drop)]
 pub struct Runner<T> {
+    /// The right to take from the queue. Between calls it has no task.
     pass: Pass<Asked<T>, Slip<T>>,
 }
 
@@ -68,7 +72,9 @@ impl<T> Model for Runner<T> {
 /// That a task was taken. It goes to who asked, with the answer.
 #[derive(Drop)]
 pub struct Note<T> {
+    /// It was split off as the task was taken, and claims that the task is the one of this number.
     pass: Pass<Asked<T>, Slip<T>>,
+    /// The task's among all that were asked, from 0.
     number: u64,
 }
 

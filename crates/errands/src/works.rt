@@ -55,12 +55,19 @@ impl<T, D, J: Job<T, D>> Works<T, D> for Alone<'_, J> {
 #[derive(Drop)]
 pub struct Crew<'a, T: Drop, D: Drop, J: Job<T, D>, N: Naming, R> {
     rt: &'a R,
+    /// Where the tasks wait.
     errands: &'a Errands<T>,
+    /// Where answers come back, in whichever order.
     replies: &'a ArrayQueue<Reply<T, D, J, N>>,
+    /// What is done of each task, by runners and by this thread alike.
     job: &'a J,
+    /// By which this thread and the runners wake each other.
     bells: &'a Bells,
+    /// Between calls all its notes are back.
     asker: Asker<T>,
+    /// By which this thread takes tasks while it waits.
     runner: Runner<T>,
+    /// The answer of each task, at the task's place; empty between calls.
     places: Vec<Option<D>>,
 }
 

@@ -26,12 +26,15 @@ pub const LANES: usize = 72;
 /// A desk for the tasks of lanes, before the call that names it: who asks, who runs tasks, and who wakes whom.
 #[derive(Drop)]
 pub struct LaneDesk {
+    /// Where lanes wait as tasks, at most 72.
     pub errands: Errands<LaneTask>,
+    /// The only one that asks there.
     pub asker: Asker<LaneTask>,
     /// Runs tasks for who asks, while it waits.
     pub own: Runner<LaneTask>,
     /// Those beside it.
     pub runners: Vec<Runner<LaneTask>>,
+    /// By which who asks and who run tasks wake each other.
     pub bells: Bells,
 }
 
@@ -70,8 +73,11 @@ pub fn open_desk(alloc: Global, runners: u32) -> Result<LaneDesk, AllocError>
 /// Places for a round are reserved before.
 #[derive(Drop)]
 pub struct LaneCrew<'a, 'g, G: Gate, N: Naming, R: Wait> {
+    /// The tasks of lanes go by it, where two or more have something to do.
     crew: Crew<'a, LaneTask, LaneDone, LaneJob<'g, G, R>, N, R>,
+    /// For lanes that this thread works without a task.
     gate: &'g G,
+    /// By which this thread gives lists of blocks back.
     rt: &'g R,
     // Both are empty between rounds.
     tasks: VecDeque<LaneTask>,

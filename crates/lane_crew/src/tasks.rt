@@ -18,8 +18,11 @@ use std::sync::Wait;
 pub struct QueueTask {
     // Its place among the queues.
     at: usize,
+    /// With the packets that it is to merge.
     lane: QueueLane,
+    /// How many packets a run may have.
     segs: u32,
+    /// With this lane's part of the list that goes back; None where it got none.
     giver: Option<Giver>,
 }
 
@@ -39,9 +42,13 @@ impl Model for QueueTask {
 pub struct WatchTask {
     // Its place among the taps.
     at: usize,
+    /// With the clones that it is to read.
     lane: TapLane,
+    /// The bytes of a window.
     snap: u32,
+    /// What is shown of each packet: as many bytes as its value. All where there is none.
     filter: Option<SharedProgram>,
+    /// With this lane's part of the list that goes back; None where it got none.
     giver: Option<Giver>,
 }
 
@@ -58,15 +65,21 @@ impl Model for WatchTask {
 
 /// A queue's lane once its work is done. One that is dropped frees its blocks.
 pub struct QueueDone {
+    /// The lane's place among the queues.
     at: usize,
+    /// With its packets, and their runs.
     lane: QueueLane,
+    /// The task's, with what found no place.
     giver: Option<Giver>,
 }
 
 /// A tap's lane once its clones are read. One that is dropped frees its blocks.
 pub struct TapDone {
+    /// The lane's place among the taps.
     at: usize,
+    /// With the windows that it read, and what its clones left.
     lane: TapLane,
+    /// The task's, with what found no place.
     giver: Option<Giver>,
 }
 
@@ -224,6 +237,7 @@ impl TapDone {
 #[derive(Drop)]
 pub struct LaneJob<'g, G, R> {
     pub gate: &'g G,
+    /// By which each task gives its list of blocks back.
     pub rt: &'g R,
 }
 

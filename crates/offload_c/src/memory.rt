@@ -7,6 +7,7 @@ use std::alloc::{AllocError, Global};
 /// Gives the bytes that it was lent, and never fails.
 #[derive(Clone, Copy)]
 pub struct LentSource<'a> {
+    /// Those that weren't read yet.
     pub bytes: &'a [u8],
 }
 
@@ -27,7 +28,9 @@ impl Source for LentSource<'_> {
 #[derive(Drop)]
 pub struct GrownSink {
     pub bytes: Vec<u8>,
+    /// Whether all that was written is flushed.
     pub is_flushed: bool,
+    /// How many writes failed. It stays at `2^64 - 1`.
     pub faults: u64,
 }
 

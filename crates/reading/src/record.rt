@@ -36,6 +36,7 @@ use std::collections::VecDeque;
 #[derive(Clone, Copy)]
 pub enum Stop {
     End,
+    /// The capture is refused at the next record.
     Malformed(CapFault),
     /// The blocks that the round would need.
     PoolEmpty { need: u32 },

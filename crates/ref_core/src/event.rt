@@ -1,4 +1,6 @@
 /// What a holder does with a block.
+///
+/// Blocks and holders are told by their numbers, and a place is that of a byte in its block, from 0.
 #[derive(Clone, Copy, Debug, PartialEq, Eq)]
 pub enum Event {
     /// A fresh holder takes a block that nobody holds.

@@ -13,6 +13,7 @@ use std::marker::Model;
 /// A machine whose state is a set of pairs of holder and block, and the blocks' bytes.
 #[derive(Drop)]
 pub struct SetMachine {
+    /// Of each live holder one, with its block.
     pairs: Vec<(u32, u32)>,
     memory: Memory,
 }

@@ -24,7 +24,9 @@ pub(crate) struct Holding {
 /// A machine whose state is each holder's block and weight, each block's word, and the blocks' bytes.
 #[derive(Drop)]
 pub struct WeightMachine {
+    /// Of each live holder, by its number.
     holdings: IndexMap<u32, Holding>,
+    /// Of each block, by its number: what its holders weigh together.
     words: Vec<u64>,
     memory: Memory,
 }

@@ -50,7 +50,9 @@ pub enum SegFault {
 
 /// A pool of blocks for one record at a time, and memory that each uses again. Dropping it frees the blocks.
 pub struct SegmentRun {
+    /// Where the memory for pieces comes from.
     alloc: Global,
+    /// All its blocks are home between two records.
     pool: Pool,
     // The blocks of the record that is being read.
     hold: VecDeque<Sole>,
