@@ -16,15 +16,15 @@ use block_pool::Giver;
 use core::mem::replace;
 use errands::Job;
 use lanes::{
-    LanePlan, Lanes, QueueLane, SharedProgram, TapLane, free_queue, free_tap, program_in, share_in,
-    watch, work,
+    LanePlan, Lanes, QueueLane, SharedProgram, TapLane, free_queue, free_tap, have_short_frames,
+    program_in, share_in, watch, work,
 };
 use off_io::Gate;
 use std::collections::VecDeque;
 use std::sync::Wait;
 
-/// How many lanes have something to do.
-pub(crate) fn count_at_work(lanes: &Lanes) -> usize {
+// How many lanes have something to do.
+fn count_at_work(lanes: &Lanes) -> usize {
     let mut count = 0usize;
     for lane in &lanes.queues {
         if !lane.packets.is_empty() {
@@ -37,6 +37,14 @@ pub(crate) fn count_at_work(lanes: &Lanes) -> usize {
         }
     }
     count
+}
+
+/// How many lanes have something to do that is worth another thread's while: none where frames are short.
+pub(crate) fn count_to_share(lanes: &Lanes) -> usize {
+    if have_short_frames(lanes) {
+        return 0;
+    }
+    count_at_work(lanes)
 }
 
 // The lane leaves its place. What stays there is idle.

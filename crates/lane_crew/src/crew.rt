@@ -6,7 +6,7 @@ ghost use Rattle.lane_crew.specs.Desks.{IsOpenDesk};
 ghost use Rattle.lanes.specs.Filling.{AreReady};
 ghost use Rattle.lanes.specs.Work.{Did};
 
-use crate::away::{bring_back, count_at_work, send_all, work_here};
+use crate::away::{bring_back, count_to_share, send_all, work_here};
 use crate::tasks::{LaneDone, LaneJob, LaneTask};
 use block_pool::Giver;
 use crossbeam_queue::ArrayQueue;
@@ -156,7 +156,7 @@ impl<G: Gate, N: Naming, R: Wait> Works for LaneCrew<'_, '_, G, N, R> {
 
     fn run_lanes(&mut self, plan: &LanePlan, lanes: &mut Lanes, giver: &mut Option<Giver>) {
         let count = lanes.queues.len().saturating_add(lanes.taps.len());
-        if count > self.tasks.capacity() || count_at_work(lanes) < 2 {
+        if count > self.tasks.capacity() || count_to_share(lanes) < 2 {
             run_and_give(self.gate, self.rt, plan, lanes, giver);
         } else {
             run_by_tasks(

@@ -9,8 +9,9 @@
 //!
 //! A [`LaneCrew`] works by `errands`: threads that live for a whole run ([`serve_lanes`]) take the lanes of its rounds
 //! from a desk ([`open_desk`]), so no thread is started in a round, and what the crew holds is reserved before. A lane
-//! that has nothing to do is no task, and where one lane alone has something to do, whoever asks does it. A thread that
-//! can't be made costs nothing. The tasks of taps share the filter by `lanes::SharedProgram`.
+//! that has nothing to do is no task, and where one lane alone has something to do, whoever asks does it; so it does
+//! with all lanes where frames are short (`have_short_frames`). A thread that can't be made costs nothing. The tasks of
+//! taps share the filter by `lanes::SharedProgram`.
 //!
 //! Where blocks are lent that may go back while lanes are worked, each task carries as many as any other, a queue's or
 //! a tap's, and a pass of its own, unless there are fewer blocks than tasks or there is no memory for that. It gives
@@ -32,7 +33,7 @@
 //! Its parts: `giving` (a list that is lent, in parts and as one again), `tasks` (lanes as tasks), `away` (out to the
 //! desk and back) and `crew`.
 //!
-//! Tests: `round_tests`, module `working`.
+//! Tests: `engine_tests`, module `rounds_in_turn::working`.
 //!
 //! Why so:
 //!

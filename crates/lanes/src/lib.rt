@@ -92,10 +92,11 @@
 //!
 //! Its parts: `plan` (how many lanes), `lane` (what each has to do, and what it has done), `share` (packets to their
 //! queues, and memory for their runs), `clones` and `fill` (what taps get, where there are any), `keep` (a clone of
-//! each packet beside the work), `working` (one lane's work) and `works` (who does it); `giving` (a list that is lent
-//! goes back), `shared` (the filter that taps share), `soles` (why taps have none) and `free`; and on these `round`.
+//! each packet beside the work), `working` (one lane's work), `works` (who does it) and `frame_lengths` (by which that
+//! is chosen); `giving` (a list that is lent goes back), `shared` (the filter that taps share), `soles` (why taps have
+//! none) and `free`; and on these `round`.
 //!
-//! Tests: `round_tests`, module `working`.
+//! Tests: `engine_tests`, module `rounds_in_turn::working`.
 //!
 //! Why so:
 //!
@@ -125,6 +126,7 @@
 
 mod clones;
 mod fill;
+mod frame_lengths;
 mod free;
 mod giving;
 mod keep;
@@ -137,6 +139,7 @@ mod soles;
 mod working;
 mod works;
 
+pub use frame_lengths::{FrameLengths, have_short_frames};
 pub use free::{free_queue, free_tap};
 pub use giving::give_back;
 pub use keep::keep_packets;

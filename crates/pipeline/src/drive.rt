@@ -267,17 +267,17 @@ fn is_alone(rt: &impl Threads) -> bool {
     }
 }
 
-// Whether another thread is to read on behind this round: one may, and it gains by that. Where there is one lane alone
-// and frames are short it doesn't.
-fn is_shared(rt: &impl Threads, lanes: u32, read: &RoundRead) -> bool
+// Whether another thread is to read on behind this round: one may, and it gains by that. Where frames are short it
+// doesn't.
+fn is_shared(rt: &impl Threads, read: &RoundRead) -> bool
     ensures full { result ≡ true → read.now.end ≡ RoundEnd.Full }
 {
-    is_full(read.end) && !is_alone(rt) && (lanes > 1 || !read.round.has_short_frames())
+    is_full(read.end) && !is_alone(rt) && !read.round.has_short_frames()
 }
 
 /// Handles a capture's rounds by whoever works; the next rounds are read while one is worked, the first one too. On one
-/// processor, where frames are short and there is one lane, and where there is no memory or no thread for a second
-/// side, they are read here. Of a capture of one round no thread is made for it.
+/// processor, where frames are short, and where there is no memory or no thread for a second side, they are read here.
+/// Of a capture of one round no thread is made for it.
 pub(crate) fn handle_by<
     R: Threads + Wait + Sync,
     W: Works,
@@ -303,7 +303,7 @@ pub(crate) fn handle_by<
         into.old into.new result }
 {
     let read = rounds.read_round(reader);
-    if is_shared(rt, rounds.lanes(), &read) {
+    if is_shared(rt, &read) {
         handle_on(rt, alloc, works, rounds, reader, read, handler, into)
     } else {
         handle_here(works, rounds, reader, read, handler, into)
