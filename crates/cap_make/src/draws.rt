@@ -23,7 +23,7 @@ pub const PUSHED: u8 = 13;
 
 const EMPTY: u8 = 14;
 
-/// The event of a full record whose sequence number leaves a gap before it.
+/// The event of a full record whose identification jumps by 7.
 pub const JUMPING: u8 = 15;
 
 const FULL: u16 = 1200;
