@@ -1,4 +1,5 @@
 pub mod Fronts
+mod Judging
 pub mod HeadLaws
 pub mod RecordLaws
 pub mod LengthLaws
