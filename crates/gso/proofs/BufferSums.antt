@@ -1,6 +1,6 @@
 -- The sums of the segments of a buffer's bytes.
-use Rattle.std.proofs.Common.{◌≡◌, ℕ, ◌+◌, ◌≤◌, ◌<◌, ◌^◌, List, ◌++◌, length, get_or, drop, sym, ap, ◌∙◌, arith, append_assoc, length-append, length-drop}
-use Rattle.std.proofs.lemmas.List.{drop_more, drop-append-le}
+use Rattle.std.proofs.Common.{◌≡◌, ℕ, ◌+◌, ◌≤◌, ◌<◌, ◌^◌, List, ◌++◌, length, get_or, drop, sym, ap, ◌∙◌, arith, append_assoc, append-nil, subst, length-append, length-drop}
+use Rattle.std.proofs.lemmas.List.{drop_more, drop_all, drop-append-le}
 use Rattle.frags.specs.PieceList.{bytes_of, piece_bytes}
 use Rattle.frags.specs.declared.pieces.Piece.{Piece}
 use Rattle.skb.specs.SkbState.{SkbState, head_bytes, buffer_bytes}
@@ -17,6 +17,13 @@ pub record AreBufferSums (s : SkbState) (m from i : ℕ) (sums : Sums) : Type 0 
   pub in_bytes : AreBytes done
   pub room : IsRoom m sums
   pub short : sums.rest.len ≤ length done
+
+-- no piece is left
+pub parts_all : (s : SkbState) (m from i : ℕ) (sums : Sums) → AreBufferSums s m from i sums → length s.rest ≤ i
+    → AreBytes (drop from (buffer_bytes s))
+parts_all s m from i sums is end =
+    subst AreBytes (sym (append-nil is.done) ∙ ap (λ (ps : List Piece). is.done ++ bytes_of ps) (sym (drop_all i s.rest end))
+    ∙ is.whole) is.in_bytes
 
 pub parts_front : (s : SkbState) (m from : ℕ) (sums : Sums) → from ≤ length (head_bytes s) → AreSumsOf m sums (drop from (head_bytes s)) → AreBytes (drop from (head_bytes s)) → IsRoom m sums
     → sums.rest.len ≤ length (drop from (head_bytes s)) → AreBufferSums s m from 0 sums

@@ -1,5 +1,5 @@
 -- A buffer's frame, of which the first bytes are known.
-use Rattle.std.proofs.Common.{◌≡◌, ℕ, ◌+◌, ◌-◌, ◌≤◌, Some, List, ◌++◌, length, min, get_or, drop, sym, ap, subst, arith}
+use Rattle.std.proofs.Common.{◌≡◌, ℕ, ◌+◌, ◌-◌, ◌<◌, ◌≤◌, ◌^◌, Some, List, ◌++◌, length, min, get_or, drop, sym, ap, subst, arith, ap, ◌∙◌, length-append, length-drop}
 use Rattle.std.proofs.lemmas.List.{get_or-drop}
 use Rattle.inet_sum.specs.Stands.{FoldAndLength, StandsFor}
 use Rattle.frame_layout.specs.Shape.{Layout, shape_of}
@@ -42,6 +42,16 @@ known f front at m place sums payload joined small enough within is behind sum s
       payload_is = record { tail = drop (length front) f; joined = joined; sum = stands (drop at f) k; in_bytes = all };
       same = same_shape f front joined small enough;
     }
+
+pub dropped_few : (f : List ℕ) (at : ℕ) → length f < 2 ^ 32 → length (drop at f) < 2 ^ 32
+dropped_few f at few = omega (arith, few, length-drop at f)
+
+-- how long a frame is by the length of its payload
+pub whole_len : (f front : List ℕ) (at place len : ℕ) → f ≡ front ++ drop (length front) f → at ≤ length front → place ≡ at
+    → len ≡ length (drop place f) → (length front ≤ at + len) × (length f ≡ at + len)
+whole_len f front at place len joined within is size =
+    let long = ap length joined ∙ length-append front (drop (length front) f) in
+    (omega (arith, long, within, is, size, length-drop place f), omega (arith, long, within, is, size, length-drop place f))
 
 -- headers stand in the bytes that have their shape
 pub headers_in : (front : List ℕ) (l : Layout) → shape_of front ≡ Some l → AtHeaders (λ layer at. at + size layer ≤ length front) l.headers

@@ -1,6 +1,8 @@
 -- A segment's headers before its payload, which stays where it lies.
-use Rattle.std.proofs.Common.{◌≡◌, ℕ, ◌+◌, ◌*◌, ◌<◌, ◌≤◌, ◌^◌, List, ◌++◌, length, take, drop, min, sym, ap, ◌∙◌, subst, arith}
+use Rattle.std.proofs.Common.{◌≡◌, ℕ, ◌+◌, ◌*◌, ◌<◌, ◌≤◌, ◌^◌, List, ◌++◌, length, take, drop, min, sym, ap, ◌∙◌, subst, arith, length-drop}
 use Rattle.std.proofs.lemmas.List.{length-take-le, take-append-le, drop-drop}
+use Rattle.std.proofs.lemmas.Bool.{eqb-true}
+use Rattle.std.specs.Prelude.{true, ◌==◌}
 use Rattle.inet_sum.specs.Stands.{FoldAndLength, StandsFor}
 use Rattle.frame_layout.specs.Headers.{AtHeaders, AreLaid}
 use Rattle.offload_model.specs.Mergeable.{IsLengthInRange}
@@ -29,6 +31,14 @@ module _ (g : SegmentsState) (i : ℕ) (from : Place) (ready : IsSegmentsReady g
 
   pub own_is : own ≡ payload_at cut f i
   own_is = first_n (bytes_at g.skb from) cut.m (min cut.m from.left) (ap (min cut.m) is.place.left) ∙ ap (take cut.m) is.bytes
+
+  pub known_sum : (sum : FoldAndLength) → StandsFor sum (payload_at cut f i) → StandsFor sum own
+  known_sum sum stands = subst (StandsFor sum) (sym own_is) stands
+
+  pub last_all : (i + 1 == cut.n) ≡ true → length (drop at f) ≤ (i + 1) * cut.m
+  last_all e =
+      let all : length (drop at f) ≤ cut.n * cut.m = omega (arith, length-drop at f, ready.of.within) in
+      subst (λ (n : ℕ). length (drop at f) ≤ n * cut.m) (sym (eqb-true (i + 1) cut.n e)) all
 
   module _ (head : List ℕ) (headers : head ≡ take at f) where
     pub head_long : length head ≡ at

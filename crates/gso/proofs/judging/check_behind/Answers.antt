@@ -1,4 +1,5 @@
 use Rattle.std.proofs.Common.{◌≡◌, true, false, sym, ◌∙◌, refl}
+use Rattle.std.proofs.lemmas.Bool.{false≢true}
 use Rattle.pcap_io.specs.Capture.{Packet, packet}
 use Rattle.skb.specs.SkbState.{buffer_bytes}
 use Rattle.offload_model.specs.Tests.{is_lawful_by}
@@ -21,4 +22,4 @@ returns-in-None-clause-lawful c =
     let p : Packet = packet 0 0 0 c.args.original (buffer_bytes c.args.skb.now) in
     let not : is_lawful_by c.args.head.now p ≡ false
     = lawful_none c.args.head.now p (sym c.is_single.ensures.single ∙ c.if-is_single.false) (sym c.is_window.ensures.window ∙ c.if-is_window.false) c.in-None.ensures.refused in
-    (λ e. absurd cc, λ t. let both : false ≡ true = sym not ∙ t in both)
+    (λ e. absurd (false≢true e), λ t. let both : false ≡ true = sym not ∙ t in both)

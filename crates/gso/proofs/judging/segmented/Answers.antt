@@ -1,4 +1,4 @@
-use Rattle.std.proofs.Common.{◌≡◌, ◌∙◌, ℕ, ◌++◌, Some, List, length, drop, sym, ap, subst, arith}
+use Rattle.std.proofs.Common.{◌≡◌, ◌<◌, ◌≤◌, ◌+◌, ◌^◌, ◌∙◌, ℕ, min, ◌++◌, Some, List, length, drop, sym, ap, subst, arith}
 use Rattle.pcap_io.specs.Capture.{packet}
 use Rattle.frame_layout.specs.Shape.{Layout}
 use Rattle.frame_layout.specs.Segment.{IsSegOf}
@@ -6,8 +6,8 @@ use Rattle.offload_model.specs.Segments.{IsLawfulSuper}
 use Rattle.skb.specs.SkbState.{buffer_bytes}
 use Rattle.segment_rule.specs.Segmentations.{IsJudged}
 use Rattle.gso.specs.Sums.{AreSumsOf}
-use Rattle.gso.proofs.Fronted.{IsKnown, known, headers_in}
-use Rattle.gso.proofs.judging.segmented.Goals.{After-whole-payload, In-Some, In-Some-segmentation_of}
+use Rattle.gso.proofs.Fronted.{IsKnown, known, headers_in, whole_len, dropped_few}
+use Rattle.gso.proofs.judging.segmented.Goals.{After-payload-1, After-whole-payload, In-Some, In-Some-segmentation_of}
 use Rattle.gso.proofs.judging.segmented.Goals as goal
 
 -- what the sums say of the buffer's frame
@@ -64,3 +64,28 @@ returns-clause-front c = omega (arith, ap (λ (l : Layout). l.payload_at) (layou
 
 pub returns-clause-in_bytes : goal.returns-clause-in_bytes
 returns-clause-in_bytes c = (here (goal.at.returns-clause-in_bytes c).After-whole-payload).small
+
+pub whole-payload-requires : goal.whole-payload-requires
+whole-payload-requires c =
+    let f = buffer_bytes c.args.skb.now in
+    let at = c.payload_at.result in
+    let few = subst (λ (n : ℕ). n < 2 ^ 32) c.len.ensures.bytes c.len.ensures.small in
+    record { of = (drop at f, (c.sums_of-sums.ensures.sums, dropped_few f at few)) }
+
+-- the payload is all behind the headers
+whole : (c : After-payload-1) → (length c.args.front.now ≤ c.args.layout.payload_at + c.whole-payload.result.len)
+    × (length (buffer_bytes c.args.skb.now) ≡ c.args.layout.payload_at + c.whole-payload.result.len)
+whole c =
+    let f = buffer_bytes c.args.skb.now in
+    let at = c.payload_at.result in
+    whole_len f c.args.front.now c.args.layout.payload_at at c.whole-payload.result.len c.requires.joined c.requires.within
+    c.payload_at.ensures.place (c.whole-payload.ensures.whole (drop at f) c.sums_of-sums.ensures.sums).1
+
+pub candidate_in-requires-clause-few : goal.candidate_in-requires-clause-few
+candidate_in-requires-clause-few c = subst (λ (n : ℕ). n < 2 ^ 32) (c.len.ensures.bytes ∙ (whole c).1) c.len.ensures.small
+
+pub candidate_in-requires-clause-whole : goal.candidate_in-requires-clause-whole
+candidate_in-requires-clause-whole c = (whole c).0
+
+pub candidate_in-requires-clause-enough : goal.candidate_in-requires-clause-enough
+candidate_in-requires-clause-enough c = subst (λ (n : ℕ). min n 200 ≤ length c.args.front.now) (whole c).1 c.requires.enough

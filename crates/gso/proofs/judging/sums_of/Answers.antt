@@ -1,9 +1,9 @@
-use Rattle.std.proofs.Common.{[], length, drop, ap, subst, arith, ◌∙◌}
+use Rattle.std.proofs.Common.{◌≤◌, ℕ, [], length, drop, ap, subst, arith, ◌∙◌}
 use Rattle.frags.specs.declared.pieces.Piece.{Piece}
 use Rattle.skb.specs.Checksum.{AreBytes}
 use Rattle.gso.specs.Sums.{AreSumsOf}
 use Rattle.skb.proofs.Summing.{all_behind}
-use Rattle.gso.proofs.BufferSums.{parts_front, parts_more, parts_few}
+use Rattle.gso.proofs.BufferSums.{parts_all, parts_front, parts_more, parts_few}
 use Rattle.gso.proofs.judging.sums_of.Goals as goal
 
 none : Piece
@@ -38,3 +38,8 @@ loop-i-preserved c =
           (a.ensures.sums i.summed.done i.summed.known) a.ensures.in_bytes a.ensures.room a.ensures.len;
       within = omega (arith, c.loop-i-test.true);
     }
+
+pub returns-clause-in_bytes : goal.returns-clause-in_bytes
+returns-clause-in_bytes c =
+    parts_all c.args.skb.now c.args.m c.args.from c.loop-i.i c.loop-i.sums c.loop-i.invariant.summed
+    (subst (λ (n : ℕ). n ≤ c.loop-i.i) c.loop-i.invariant.end c.loop-i-test.false)
