@@ -9,4 +9,5 @@ FIND = 'root=$0 teller=$1 refused=1 && . "$root/contrib/lib/program.sh" && find_
 def find_program(teller):
     """Its path; `teller` speaks on the standard error meanwhile."""
     command = ["bash", "-c", FIND, ROOT, teller]
-    return subprocess.run(command, stdin=subprocess.DEVNULL, stdout=subprocess.PIPE, text=True, check=True).stdout.strip()
+    done = subprocess.run(command, stdin=subprocess.DEVNULL, stdout=subprocess.PIPE, text=True, check=True)
+    return done.stdout.strip()
