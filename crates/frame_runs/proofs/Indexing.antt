@@ -56,6 +56,12 @@ found_last look rs q i index e = at (index q).0 (index q).1.0 (index q).1.1
     at (Some j) l (inl f) = let t : Some j ≡ Some i = sym f ∙ e in subst (λ z. IsLastBelow (is_run_of q) rs (length rs) z) t l
     at (Some j) l (inr f) = absurd (let t : None ≡ Some i = sym f.0 ∙ e in cc)
 
+-- and is found of no other flow
+pub own_last : (look : Option (List ℕ) → Option ℕ) (rs : List (List Packet)) (key : Option (List ℕ)) (i : ℕ) → IsIndexOf look rs
+    → look key ≡ Some i → (q : Option (List ℕ)) → look q ≡ Some i → key ≡ q
+own_last look rs key i index e q f =
+    one_flow key q (get_or rs i []) ((found_last look rs key i index e).1 []) ((found_last look rs q i index f).1 [])
+
 -- ---- a run takes a packet
 
 module _ (look : Option (List ℕ) → Option ℕ) (rs : List (List Packet)) (key : Option (List ℕ)) (i : ℕ) (run : List Packet) (x : Packet)

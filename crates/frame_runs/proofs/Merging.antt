@@ -19,12 +19,13 @@ use Rattle.merge_rule.proofs.Steps.{early_grows}
 use Rattle.frame_runs.specs.declared.run.Run.{Run}
 use Rattle.frame_runs.specs.declared.flows.Flows.{Flows}
 use Rattle.frame_runs.specs.declared.engine.Engine.{Engine}
-use Rattle.frame_runs.specs.Flows.{place_of, AreFlows, Puts, HasRoom}
+use Rattle.frame_runs.specs.Flows.{place_of, AreFlows, IsOwn, Puts, HasRoom}
 use Rattle.frame_runs.specs.Index.{IsShut, IsIndexOf, IsLatest}
 use Rattle.frame_runs.specs.Chains.{chain_of, behind, indices, last_in, packet_at, run_of, index_sum, index_sums, sum_below, AreSharedOut, mark}
 use Rattle.frame_runs.specs.Engine.{Knows, TakesOne, IsChain, runs_of, chains_of, AreRuns, Grows, HasPlaces, Takes}
 use Rattle.frame_runs.proofs.Keys.{keys_equiv}
-use Rattle.frame_runs.proofs.Indexing.{found_last, index_grows, takes_grows, index_opens, takes_opens, index_none, latest_of}
+pub use Rattle.frame_runs.proofs.Flowing.{room_less}
+use Rattle.frame_runs.proofs.Indexing.{found_last, own_last, index_grows, takes_grows, index_opens, takes_opens, index_none, latest_of}
 use Rattle.frame_runs.proofs.Chains.{mark_same, once, last_counts, chain_apart, chain_grown, last_grown, totals_push, totals_set, one_of, two_of}
 use Rattle.std.proofs.lemmas.List.{get_or-set_other, take_more, take_all}
 use Rattle.maximal_runs.specs.Items.{AreItems}
@@ -430,6 +431,11 @@ pub found_inside : (ps : List Packet) (a : Engine) (key : Option (List ℕ)) (pl
     → place < length a.runs.items
 found_inside ps a key place index found =
     omega (arith, (found_last (place_of ps a.flows) (runs_of ps a) key place index found).0, length-map a.runs.items (run_of ps a.next.items))
+
+-- and of no other flow
+pub own_by : (ps : List Packet) (a : Engine) (key : Option (List ℕ)) (place : ℕ) → IsIndexOf (place_of ps a.flows) (runs_of ps a) → place_of ps a.flows key ≡ Some place
+    → IsOwn ps a.flows key place
+own_by ps a key place index found = (found, own_last (place_of ps a.flows) (runs_of ps a) key place index found)
 
 -- a run that has taken a packet, and the flows behind it
 pub taken_by : (segs : ℕ) (ps : List Packet) (i place : ℕ) (is_open : Bool) (a b : Engine) (f : Flows) (runs : AreRuns ps i a) (inside : place < length a.runs.items)

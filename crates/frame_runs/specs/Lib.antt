@@ -5,3 +5,4 @@ pub mod Frames
 pub mod Index
 pub mod Lent
 pub mod MergedRun
+pub mod OpenGroups

@@ -8,7 +8,7 @@ ghost use Rattle.frame_layout.specs.Shape.{shape_of};
 ghost use Rattle.merge_rule.specs.Runs.{IsJudged, IsShaped, IsCandidateOf, IsNoCandidate};
 
 use crate::frame::Frame;
-use frame_layout::{Layout, is_flow_of, key, mergeable_leaf, shape};
+use frame_layout::{Key, Layout, is_flow_of, key, key_behind, mergeable_leaf, shape};
 use inet_sum::Partial;
 use ip_headers::ip4;
 use merge_rule::Candidacy;
@@ -146,4 +146,24 @@ pub(crate) fn is_same_flow<F: Frame>(first: &F, next: &F, candidacy: &Candidacy)
         Some(layout) => is_flow_same(first, next, layout),
         None => is_key_same(first, next),
     }
+}
+
+/// The key of a packet's flow. The headers of one that may be merged aren't walked again.
+pub(crate) fn flow_key<F: Frame>(slot: &F, candidacy: &Candidacy) -> Key
+    requires slot { F.is_held slot.now }
+    requires shaped { IsShaped candidacy.now.layout (F.packet slot.now).frame }
+    ensures key { result ≡ key_of (F.packet slot.now).frame }
+{
+    match &candidacy.layout {
+        Some(layout) => key_behind(slot.head(), layout),
+        None => key(slot.head()),
+    }
+}
+
+/// The same of any packet.
+pub(crate) fn key_in<F: Frame>(slot: &F) -> Key
+    requires slot { F.is_held slot.now }
+    ensures key { result ≡ key_of (F.packet slot.now).frame }
+{
+    key(slot.head())
 }

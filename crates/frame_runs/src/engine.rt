@@ -9,13 +9,13 @@ ghost use Rattle.offload_model.specs.Mergeable.{IsMergeable, IsMergeableWithin};
 ghost use Rattle.offload_model.specs.Rounds.{is_of, runs_in};
 ghost use Rattle.merge_rule.specs.Runs.{IsJudged, IsNoCandidate, IsFirstProgress};
 ghost use Rattle.pcap_io.specs.Capture.{Packet};
-ghost use Rattle.frame_runs.specs.Chains.{packet_at, IsHere};
-ghost use Rattle.frame_runs.specs.Flows.{hash_of, place_of, AreFlows, Puts, HasRoom};
+ghost use Rattle.frame_runs.specs.Chains.{IsHere};
+ghost use Rattle.frame_runs.specs.Flows.{hash_of, place_of, AreFlows, IsOwn, Puts, HasRoom};
 ghost use Rattle.frame_runs.specs.Engine.{IsAdded, IsChain, runs_of, AreRuns, HasPlaces, Grows, Takes, DoRise, IsReady};
 
 use crate::candidacy::{Addition, is_refused, judge};
 use crate::flow_hash::{flow_hash, hash_in};
-use crate::flows::Flows;
+use crate::flows::{Flows, Group};
 use crate::frame::Frame;
 use crate::run::{Run, progress_of};
 use merge_rule::{Candidacy, Progress};
@@ -37,22 +37,21 @@ fn open_at(place: usize, is_open: bool) -> Option<usize>
     if is_open { Some(place) } else { None }
 }
 
-/// The flow of packet i finds nothing any more, where its run isn't open.
-fn settle<F: Frame>(flows: &mut Flows, i: u32, slot: &F, is_open: bool)
-    requires places { HasRoom flows.old 1 }
+/// The flow of a packet, whose run stands here, finds nothing any more, where that isn't open.
+fn settle<F: Frame>(flows: &mut Flows, slot: &F, place: usize, is_open: bool)
     requires slot { F.is_held slot.now }
-    ensures flows { (ps : List Packet) → AreFlows ps flows.old → i < length ps → packet_at ps i ≡ F.packet slot.now
-        → AreFlows ps flows.new }
-    ensures puts { (ps : List Packet) → packet_at ps i ≡ F.packet slot.now
-        → let key = key_of (F.packet slot.now).frame in
-        Puts ps flows.old key (if is_open then place_of ps flows.old key else None) flows.new }
-    ensures room { (n : ℕ) → HasRoom flows.old (n + 1) → HasRoom flows.new n }
+    ensures flows { (ps : List Packet) → AreFlows ps flows.old
+        → IsOwn ps flows.old (key_of (F.packet slot.now).frame) place → AreFlows ps flows.new }
+    ensures puts { (ps : List Packet) → AreFlows ps flows.old
+        → IsOwn ps flows.old (key_of (F.packet slot.now).frame) place
+        → Puts ps flows.old (key_of (F.packet slot.now).frame) (if is_open then Some place else None) flows.new }
+    ensures room { (n : ℕ) → HasRoom flows.old n → HasRoom flows.new n }
 {
     if is_open {
         return;
     }
     let hash = hash_in(slot);
-    flows.put(i, hash, None);
+    flows.close(slot, hash, place);
 }
 
 impl Engine {
@@ -161,7 +160,12 @@ impl Engine {
     {
         let place = self.runs.len();
         let is_open = progress.is_open;
-        self.flows.begin(i, hash, place, is_open);
+        let group = Group {
+            packet: i,
+            hash,
+            run: place,
+        };
+        self.flows.begin(slot, group, is_open);
         self.last = open_at(place, is_open);
         self.runs.push_reserved(Run::open(i, candidacy, progress));
     }
@@ -194,9 +198,13 @@ impl Engine {
     {
         let is_open = progress.is_open;
         let place = self.runs.len();
-        let last = open_at(place, is_open);
-        self.flows.put(i, hash, last);
-        self.last = last;
+        let group = Group {
+            packet: i,
+            hash,
+            run: place,
+        };
+        self.flows.follow(slot, found, group, is_open);
+        self.last = open_at(place, is_open);
         self.runs.push_reserved(Run::open(i, candidacy, progress));
     }
 
@@ -246,7 +254,7 @@ impl Engine {
             flags: candidacy.flags,
         };
         let is_open = self.link(packets, i, slot, found, &addition);
-        self.flows.keep(i, hash, found, is_open);
+        self.flows.keep(slot, hash, found, is_open);
         self.last = open_at(found, is_open);
     }
 
@@ -276,7 +284,7 @@ impl Engine {
             → Takes segs (map F.packet packets.now) i self.old self.new }
     {
         let is_open = self.link(packets, i, slot, place, addition);
-        settle(&mut self.flows, i, slot, is_open);
+        settle(&mut self.flows, slot, place, is_open);
         self.last = open_at(place, is_open);
     }
 

@@ -1,38 +1,55 @@
-//! The open run of each flow.
-ghost use Rattle.std.specs.Prelude.{◌≡◌, ◌+◌, ◌<◌, ◌≤◌, Option, Some, None, List, ℕ, length, map, IfOk, OnOk, true};
-ghost use Rattle.std.specs.Prelude.{if◌then◌else◌};
-ghost use Rattle.pcap_io.specs.Capture.{Packet};
-ghost use Rattle.frame_layout.specs.Key.{key_of};
-ghost use Rattle.merge_rule.specs.Runs.{IsShaped};
-ghost use Rattle.frame_runs.specs.Chains.{packet_at};
-ghost use Rattle.frame_runs.specs.Flows.{bucket_in, hash_of, key_at, place_of, AreFlows, IsHashed, Puts, HasRoom};
+//! The open group of each flow.
+ghost use Rattle.std.specs.Prelude.{◌≡◌, ◌+◌, ◌-◌, ◌<◌, ◌≤◌, ◌^◌, Option, Some, None, List, ℕ, length, map, IfOk, OnOk, IfSome};
+ghost use Rattle.std.specs.Prelude.{IfNone, IsTrue, IsSome, true, if◌then◌else◌};
 ghost use Rattle.std.specs.Bool.{Decides};
+ghost use Rattle.std.specs.HashMap.{IsEmpty};
 ghost use Rattle.std.specs.List.{AllByRecursion};
+ghost use Rattle.pcap_io.specs.Capture.{Packet};
+ghost use Rattle.slab.specs.Slab.{get, Updates};
+ghost use Rattle.frame_layout.specs.Key.{key_eq, key_of};
+ghost use Rattle.merge_rule.specs.Runs.{IsShaped};
+ghost use Rattle.frame_runs.specs.Flows.{bucket_in, hash_of, key_at, place_at, slot_of, place_of, AreFlows, IsHashed};
+ghost use Rattle.frame_runs.specs.Flows.{HasRun, IsGroup, IsOwn, IsTaken, Puts, HasRoom};
+ghost use Rattle.frame_runs.specs.declared.flows.Group.{Group};
 
-use crate::candidacy::is_same_flow;
+use crate::candidacy::{flow_key, is_same_flow, key_in};
 use crate::frame::Frame;
+use frame_layout::Key;
 use merge_rule::Candidacy;
+use slab::Slab;
 use std::alloc::{AllocError, Global};
+use std::collections::HashMap;
+use std::marker::Model;
 
-/// What is known of a flow: the place of its open run, where it has one. The flow is that of a packet of the list, and
-/// `hash` that of its key. The entry before it in its bucket, counted from 1, is `below`.
-#[derive(Drop)]
-pub struct Entry {
+const PLACES: usize = 256;
+
+/// The open group of a flow: a packet of the flow, the hash of its key, and the place of its run in the list of runs.
+#[derive(Clone, Copy)]
+pub struct Group {
     pub packet: u32,
     pub hash: u32,
-    pub below: usize,
-    pub place: Option<usize>,
+    pub run: usize,
 }
 
-/// Where the open run of each flow stands in the list of runs. The last entry of a flow tells it. All entries of one
-/// bucket are a chain, from the last one on, which is counted from 1 in `heads`.
+/// The open groups. A group stands at its hash's place of a table, where the key of the slab is counted from 1; and
+/// where another open group stands there, the map has it.
 #[derive(Drop)]
 pub struct Flows {
-    pub heads: [usize; 128],
-    pub entries: Vec<Entry>,
+    groups: Slab<Group>,
+    keys: HashMap<Key, usize>,
+    places: Vec<usize>,
 }
 
-impl Entry {
+impl Model for Flows {
+    ghost use Rattle.std.specs.HashMap.{spare};
+    ghost use Rattle.frame_runs.specs.OpenGroups.{OpenGroups};
+
+    ghost Value = { OpenGroups };
+
+    ghost view = { λ f. record { groups = f.groups; entries = f.keys.entries; room = spare f.keys; places = f.places.items } };
+}
+
+impl Group {
     /// Whether it is of a packet's flow, whose key has this hash.
     fn is_of<F: Frame>(&self, packets: &[F], slot: &F, candidacy: &Candidacy, hash: u32) -> bool
         requires hashed { IsHashed (map F.packet packets.now) self.now.packet self.now.hash }
@@ -50,65 +67,142 @@ impl Entry {
     }
 }
 
-/// The bucket of a key with this hash.
+/// The place of a key with this hash.
 fn bucket(hash: u32) -> usize
     ensures bucket { result ≡ bucket_in hash }
-    ensures inside { result < 128 }
+    ensures inside { result < 256 }
 {
-    (hash / 0x0200_0000) as usize
+    (hash / 0x0100_0000) as usize
+}
+
+/// The map has no key any more. One without is left as it is.
+fn clear_keys(keys: &mut HashMap<Key, usize>)
+    ensures none { IsEmpty keys.new }
+{
+    if !keys.is_empty() {
+        keys.clear();
+    }
 }
 
 impl Flows {
-    /// No flow has an open run yet, and there is no memory for any.
+    /// No flow has an open group yet, and there is no memory for any.
     pub(crate) fn new(alloc: Global) -> Flows
         ensures flows { (ps : List Packet) → AreFlows ps result }
         ensures none { (ps : List Packet) (q : Option (List ℕ)) → place_of ps result q ≡ None }
+        ensures room { HasRoom result 0 }
     {
-        let entries = Vec::new(alloc);
         Flows {
-            heads: [0; 128],
-            entries,
+            groups: Slab::new(alloc),
+            keys: HashMap::new(alloc),
+            places: Vec::new(alloc),
         }
     }
 
-    /// No flow has an open run yet. The memory for n is taken.
+    /// No flow has an open group yet. The memory for n is taken.
     pub(crate) fn with_capacity(alloc: Global, n: usize) -> Result<Flows, AllocError>
         ensures flows { IfOk result (λ f. (ps : List Packet) → AreFlows ps f) }
         ensures none { IfOk result (λ f. (ps : List Packet) (q : Option (List ℕ)) → place_of ps f q ≡ None) }
         ensures room { IfOk result (λ f. HasRoom f n) }
     {
-        let entries = Vec::with_capacity(alloc, n)?;
+        let groups = Slab::with_capacity(alloc, n)?;
+        let keys = HashMap::with_capacity(alloc, n)?;
+        let places = vec![in alloc; 0; PLACES]?;
         Ok(Flows {
-            heads: [0; 128],
-            entries,
+            groups,
+            keys,
+            places,
         })
     }
 
-    /// Room for n packets more.
+    /// Room for n groups more.
     pub(crate) fn reserve(&mut self, n: usize) -> Result<(), AllocError>
         ensures flows { (ps : List Packet) → AreFlows ps self.old → AreFlows ps self.new }
         ensures same { (ps : List Packet) (q : Option (List ℕ)) → place_of ps self.new q ≡ place_of ps self.old q }
         ensures room { OnOk result (HasRoom self.new n) }
         ensures later { (k : ℕ) → HasRoom self.old k → HasRoom self.new k }
     {
-        self.entries.reserve(n)
+        self.groups.reserve(n)?;
+        self.keys.reserve(n)?;
+        if self.places.len() < PLACES {
+            self.places.resize(PLACES, 0)?;
+        }
+        Ok(())
     }
 
-    /// No flow has an open run any more. The memory stays.
+    /// No flow has an open group any more. The memory stays.
     pub(crate) fn clear(&mut self)
         ensures flows { (ps : List Packet) → AreFlows ps self.new }
         ensures none { (ps : List Packet) (q : Option (List ℕ)) → place_of ps self.new q ≡ None }
         ensures room { HasRoom self.new 0 }
     {
-        self.entries.clear();
-        self.heads = [0; 128];
+        self.groups.clear();
+        clear_keys(&mut self.keys);
+        self.places.fill(0);
     }
 
-    /// Whether no flow has an open run.
+    /// Whether no flow has an open group.
     pub(crate) fn is_empty(&self) -> bool
         ensures none { result ≡ true → (ps : List Packet) (q : Option (List ℕ)) → place_of ps self.now q ≡ None }
     {
-        self.entries.is_empty()
+        self.groups.is_empty()
+    }
+
+    /// What stands at the place of this hash, counted from 1.
+    fn at_place(&self, hash: u32) -> usize
+        ensures place { result ≡ place_at self.now hash }
+    {
+        match self.places.get(bucket(hash)) {
+            Some(at) => *at,
+            None => 0,
+        }
+    }
+
+    /// The run of the group under a key of the slab, where that is of a packet's flow.
+    fn run_at<F: Frame>(
+        &self,
+        at: usize,
+        packets: &[F],
+        slot: &F,
+        candidacy: &Candidacy,
+        hash: u32,
+    ) -> Option<usize>
+        requires flows { AreFlows (map F.packet packets.now) self.now }
+        requires slots { AllByRecursion F.is_held packets.now }
+        requires slot { F.is_held slot.now }
+        requires shaped { IsShaped candidacy.now.layout (F.packet slot.now).frame }
+        requires hash { hash ≡ hash_of (key_of (F.packet slot.now).frame) }
+        ensures some { IfSome result (λ run. place_of (map F.packet packets.now) self.now
+            (key_of (F.packet slot.now).frame) ≡ Some run) }
+        ensures none { IfNone result ((g : Group) → get self.now.groups at ≡ Some g
+            → key_at (map F.packet packets.now) g ≡ key_of (F.packet slot.now).frame → ⊥) }
+    {
+        let Some(group) = self.groups.get(at) else {
+            return None;
+        };
+        if group.is_of(packets, slot, candidacy, hash) {
+            Some(group.run)
+        } else {
+            None
+        }
+    }
+
+    /// The run of a packet's flow, where the map has its group.
+    #[inline(never)]
+    fn run_by_key<F: Frame>(&self, slot: &F, candidacy: &Candidacy) -> Option<usize>
+        requires slot { F.is_held slot.now }
+        requires shaped { IsShaped candidacy.now.layout (F.packet slot.now).frame }
+        ensures some { IfSome result (λ run. (ps : List Packet) → AreFlows ps self.now
+            → place_of ps self.now (key_of (F.packet slot.now).frame) ≡ Some run) }
+        ensures none { IfNone result ((ps : List Packet) → AreFlows ps self.now
+            → slot_of self.now (key_of (F.packet slot.now).frame) ≡ None) }
+    {
+        if self.keys.is_empty() {
+            return None;
+        }
+        let key = flow_key(slot, candidacy);
+        let at = *self.keys.get(&key)?;
+        let group = self.groups.get(at)?;
+        Some(group.run)
     }
 
     /// The place of the open run of a packet's flow, whose key has this hash.
@@ -127,58 +221,156 @@ impl Flows {
         ensures place { result
             ≡ place_of (map F.packet packets.now) self.now (key_of (F.packet slot.now).frame) }
     {
-        let mut at = self.heads[bucket(hash)];
-        while at > 0 {
-            let entry = &self.entries[at - 1];
-            if entry.is_of(packets, slot, candidacy, hash) {
-                return entry.place;
-            }
-            at = entry.below;
+        let at = self.at_place(hash);
+        if at == 0 {
+            return None;
         }
-        None
+        match self.run_at(at - 1, packets, slot, candidacy, hash) {
+            Some(run) => Some(run),
+            None => self.run_by_key(slot, candidacy),
+        }
     }
 
-    /// The flow of a packet, whose key has this hash, has this open run from now on, or none.
-    pub(crate) fn put(&mut self, packet: u32, hash: u32, place: Option<usize>)
+    /// Whether an open group whose place is that of this hash stands there.
+    fn is_taken(&self, hash: u32) -> bool
+        ensures taken { Decides result (IsTaken self.now hash) }
+    {
+        let at = self.at_place(hash);
+        if at == 0 {
+            return false;
+        }
+        match self.groups.get(at - 1) {
+            Some(group) => bucket(group.hash) == bucket(hash),
+            None => false,
+        }
+    }
+
+    /// Whether the group under a key of the slab, counted from 1, has this run.
+    fn is_run(&self, at: usize, run: usize) -> bool
+        ensures run { Decides result (HasRun self.now at run) }
+    {
+        if at == 0 {
+            return false;
+        }
+        match self.groups.get(at - 1) {
+            Some(group) => group.run == run,
+            None => false,
+        }
+    }
+
+    /// A packet whose flow has no open group opens one.
+    fn enter<F: Frame>(&mut self, slot: &F, group: Group)
         requires room { HasRoom self.old 1 }
-        ensures flows { (ps : List Packet) → AreFlows ps self.old → IsHashed ps packet hash → AreFlows ps self.new }
-        ensures puts { (ps : List Packet) → Puts ps self.old (key_of (packet_at ps packet).frame) place self.new }
+        requires slot { F.is_held slot.now }
+        ensures flows { (ps : List Packet) → AreFlows ps self.old → IsGroup ps group (F.packet slot.now)
+            → place_of ps self.old (key_of (F.packet slot.now).frame) ≡ None → AreFlows ps self.new }
+        ensures puts { (ps : List Packet) → AreFlows ps self.old → IsGroup ps group (F.packet slot.now)
+            → place_of ps self.old (key_of (F.packet slot.now).frame) ≡ None
+            → Puts ps self.old (key_of (F.packet slot.now).frame) (Some group.run) self.new }
         ensures room { (n : ℕ) → HasRoom self.old (n + 1) → HasRoom self.new n }
     {
-        let bucket = bucket(hash);
-        let below = self.heads[bucket];
-        self.entries.push_reserved(Entry {
-            packet,
-            hash,
-            below,
-            place,
-        });
-        self.heads[bucket] = self.entries.len();
+        let is_taken = self.is_taken(group.hash);
+        let _ = self.groups.capacity();
+        let at = self.groups.insert_reserved(group);
+        if is_taken {
+            let key = key_in(slot);
+            let _none = self.keys.insert(key, at);
+        } else {
+            self.places[bucket(group.hash)] = at + 1;
+        }
     }
 
-    /// A packet whose flow finds nothing opens a run at this place. It is found where it is open.
-    pub(crate) fn begin(&mut self, packet: u32, hash: u32, place: usize, is_open: bool)
+    /// The group under a key of the slab leaves.
+    fn remove_at(&mut self, at: usize)
+        ensures groups { Updates self.old.groups self.new.groups at None }
+        ensures entries { self.new.entries ≡ self.old.entries }
+        ensures places { self.new.places ≡ self.old.places }
+        ensures room { (n : ℕ) → HasRoom self.old n → HasRoom self.new n }
+    {
+        let _closed = self.groups.try_remove(at);
+    }
+
+    /// The group of a packet's flow, which the map has, leaves the map and the slab.
+    #[inline(never)]
+    fn remove_by_key<F: Frame>(&mut self, slot: &F)
+        requires slot { F.is_held slot.now }
+        ensures groups { IfSome (slot_of self.old (key_of (F.packet slot.now).frame))
+            (λ at. Updates self.old.groups self.new.groups at None) }
+        ensures slots { (q : Option (List ℕ)) → slot_of self.new q
+            ≡ (if key_eq (key_of (F.packet slot.now).frame) q then None else slot_of self.old q) }
+        ensures places { self.new.places ≡ self.old.places }
+        ensures room { (n : ℕ) → HasRoom self.old n → HasRoom self.new n }
+    {
+        let key = key_in(slot);
+        if let Some(at) = self.keys.remove(&key) {
+            let _closed = self.groups.try_remove(at);
+        }
+    }
+
+    /// The open group of a packet's flow, whose key has this hash, leaves. It has this run.
+    pub(crate) fn close<F: Frame>(&mut self, slot: &F, hash: u32, run: usize)
+        requires slot { F.is_held slot.now }
+        requires hash { hash ≡ hash_of (key_of (F.packet slot.now).frame) }
+        ensures flows { (ps : List Packet) → AreFlows ps self.old
+            → IsOwn ps self.old (key_of (F.packet slot.now).frame) run → AreFlows ps self.new }
+        ensures puts { (ps : List Packet) → AreFlows ps self.old
+            → IsOwn ps self.old (key_of (F.packet slot.now).frame) run
+            → Puts ps self.old (key_of (F.packet slot.now).frame) None self.new }
+        ensures room { (n : ℕ) → HasRoom self.old n → HasRoom self.new n }
+    {
+        let at = self.at_place(hash);
+        if self.is_run(at, run) {
+            return self.remove_at(at - 1);
+        }
+        self.remove_by_key(slot);
+    }
+
+    /// A packet whose flow has no open group opens a run. That is found where it is open.
+    pub(crate) fn begin<F: Frame>(&mut self, slot: &F, group: Group, is_open: bool)
         requires room { HasRoom self.old 1 }
-        ensures flows { (ps : List Packet) → AreFlows ps self.old → IsHashed ps packet hash → AreFlows ps self.new }
-        ensures puts { (ps : List Packet) → place_of ps self.old (key_of (packet_at ps packet).frame) ≡ None
-            → Puts ps self.old (key_of (packet_at ps packet).frame) (if is_open then Some place else None) self.new }
+        requires slot { F.is_held slot.now }
+        ensures flows { (ps : List Packet) → AreFlows ps self.old → IsGroup ps group (F.packet slot.now)
+            → place_of ps self.old (key_of (F.packet slot.now).frame) ≡ None → AreFlows ps self.new }
+        ensures puts { (ps : List Packet) → AreFlows ps self.old → IsGroup ps group (F.packet slot.now)
+            → place_of ps self.old (key_of (F.packet slot.now).frame) ≡ None
+            → Puts ps self.old (key_of (F.packet slot.now).frame) (if is_open then Some group.run else None) self.new }
         ensures room { (n : ℕ) → HasRoom self.old (n + 1) → HasRoom self.new n }
     {
         if is_open {
-            self.put(packet, hash, Some(place));
+            self.enter(slot, group);
         }
     }
 
-    /// The run that was found of a packet's flow has that one more. It is found as long as it is open.
-    pub(crate) fn keep(&mut self, packet: u32, hash: u32, place: usize, is_open: bool)
+    /// A packet that its flow's open run at `found` doesn't take opens the next one. That is found where it is open.
+    pub(crate) fn follow<F: Frame>(&mut self, slot: &F, found: usize, group: Group, is_open: bool)
         requires room { HasRoom self.old 1 }
-        ensures flows { (ps : List Packet) → AreFlows ps self.old → IsHashed ps packet hash → AreFlows ps self.new }
-        ensures puts { (ps : List Packet) → place_of ps self.old (key_of (packet_at ps packet).frame) ≡ Some place
-            → Puts ps self.old (key_of (packet_at ps packet).frame) (if is_open then Some place else None) self.new }
+        requires slot { F.is_held slot.now }
+        requires hash { group.hash ≡ hash_of (key_of (F.packet slot.now).frame) }
+        ensures flows { (ps : List Packet) → AreFlows ps self.old → IsGroup ps group (F.packet slot.now)
+            → IsOwn ps self.old (key_of (F.packet slot.now).frame) found → AreFlows ps self.new }
+        ensures puts { (ps : List Packet) → AreFlows ps self.old → IsGroup ps group (F.packet slot.now)
+            → IsOwn ps self.old (key_of (F.packet slot.now).frame) found
+            → Puts ps self.old (key_of (F.packet slot.now).frame) (if is_open then Some group.run else None) self.new }
         ensures room { (n : ℕ) → HasRoom self.old (n + 1) → HasRoom self.new n }
     {
-        if !is_open {
-            self.put(packet, hash, None);
+        self.close(slot, group.hash, found);
+        self.begin(slot, group, is_open);
+    }
+
+    /// The open run of a packet's flow, whose key has this hash, has that one more. It is found as long as it is open.
+    pub(crate) fn keep<F: Frame>(&mut self, slot: &F, hash: u32, run: usize, is_open: bool)
+        requires slot { F.is_held slot.now }
+        requires hash { hash ≡ hash_of (key_of (F.packet slot.now).frame) }
+        ensures flows { (ps : List Packet) → AreFlows ps self.old
+            → IsOwn ps self.old (key_of (F.packet slot.now).frame) run → AreFlows ps self.new }
+        ensures puts { (ps : List Packet) → AreFlows ps self.old
+            → IsOwn ps self.old (key_of (F.packet slot.now).frame) run
+            → Puts ps self.old (key_of (F.packet slot.now).frame) (if is_open then Some run else None) self.new }
+        ensures room { (n : ℕ) → HasRoom self.old n → HasRoom self.new n }
+    {
+        if is_open {
+            return;
         }
+        self.close(slot, hash, run);
     }
 }

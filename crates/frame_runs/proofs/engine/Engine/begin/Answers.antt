@@ -5,8 +5,8 @@ use Rattle.pcap_io.specs.Capture.{Packet}
 use Rattle.merge_rule.specs.declared.rule.Progress.{Progress}
 use Rattle.frame_runs.specs.declared.engine.Engine.{Engine}
 use Rattle.frame_layout.specs.Key.{key_of}
-use Rattle.frame_runs.specs.Chains.{packet_at}
-use Rattle.frame_runs.specs.Flows.{hash_of, place_of, IsHashed, Puts}
+use Rattle.frame_runs.specs.declared.flows.Group.{Group}
+use Rattle.frame_runs.specs.Flows.{IsGroup, Puts}
 use Rattle.frame_runs.specs.Engine.{Knows}
 use Rattle.frame_runs.proofs.Merging.{begins_run}
 use Rattle.frame_runs.proofs.engine.Engine.begin.Goals as goal
@@ -19,17 +19,16 @@ returns g c =
     let b : Engine = record { runs = c.push_reserved.new.self; next = a.next; flows = c.begin.new.self; last = c.open_at-self.result } in
     let same : c.args.progress ≡ c.open.result.progress = sym c.open.ensures.progress in
     let key : Option (List ℕ) = key_of x.frame in
-    let k : key_of (packet_at ps c.args.i).frame ≡ key = ap (λ (z : Packet). key_of z.frame) c.requires.here.1 in
-    let own : IsHashed ps c.args.i c.args.hash = (omega (arith, c.requires.here.0, length-map c.args.packets.now g.F.Frame.packet), c.requires.hash ∙ ap hash_of (sym k)) in
-    let puts = subst (λ (z : Option (List ℕ)). place_of ps a.flows z ≡ None → Puts ps a.flows z (if c.args.progress.is_open then Some c.len-place.result else None) c.begin.new.self) k
-    (c.begin.ensures.puts ps) c.requires.none in
+    let group : Group = record { packet = c.args.i; hash = c.args.hash; run = c.len-place.result } in
+    let own : IsGroup ps group x = (omega (arith, c.requires.here.0, length-map c.args.packets.now g.F.Frame.packet), c.requires.here.1, c.requires.hash) in
+    let puts = c.begin.ensures.puts ps c.requires.runs.flows own c.requires.none in
     record {
       takes = λ segs. begins_run segs ps c.args.i a b c.open.result c.requires.runs c.push_reserved.ensures.items refl
           (omega (arith, c.requires.here.0, length-map c.args.packets.now g.F.Frame.packet))
           c.open.ensures.indices.0 c.open.ensures.indices.1 c.open.ensures.indices.2
           (subst (λ z. Knows c.open.result z []) (sym c.requires.here.1) (c.open.ensures.knows x c.requires.judged c.requires.progress))
           (λ n h. (omega (arith, h.0, c.push_reserved.ensures.len, c.push_reserved.ensures.capacity), c.begin.ensures.room n h.1))
-          x key c.len-place.result c.requires.here.1 refl (omega (arith, c.len-place.ensures, a.runs.ok.0)) (c.begin.ensures.flows ps c.requires.runs.flows own)
+          x key c.len-place.result c.requires.here.1 refl (omega (arith, c.len-place.ensures, a.runs.ok.0)) (c.begin.ensures.flows ps c.requires.runs.flows own c.requires.none)
           (subst (λ (z : Progress). Puts ps a.flows key (if z.is_open then Some c.len-place.result else None) c.begin.new.self) same puts)
           (λ j e m. let t : None ≡ Some j = sym c.requires.none ∙ e in absurd cc)
           (subst (λ (z : Progress). c.open_at-self.result ≡ (if z.is_open then Some c.len-place.result else None)) same c.open_at-self.ensures.place);

@@ -6,10 +6,10 @@ use Rattle.merge_rule.specs.declared.rule.Progress.{Progress}
 use Rattle.offload_model.specs.Mergeable.{IsMergeableWithin}
 use Rattle.frame_runs.specs.declared.engine.Engine.{Engine}
 use Rattle.frame_layout.specs.Key.{key_of}
-use Rattle.frame_runs.specs.Chains.{packet_at}
-use Rattle.frame_runs.specs.Flows.{hash_of, IsHashed, Puts}
+use Rattle.frame_runs.specs.declared.flows.Group.{Group}
+use Rattle.frame_runs.specs.Flows.{IsGroup, IsOwn, Puts}
 use Rattle.frame_runs.specs.Engine.{Knows, runs_of}
-use Rattle.frame_runs.proofs.Merging.{begins_run}
+use Rattle.frame_runs.proofs.Merging.{begins_run, own_by}
 use Rattle.frame_runs.proofs.engine.Engine.follow.Goals as goal
 
 pub returns : goal.returns
@@ -17,23 +17,24 @@ returns g c =
     let a : Engine = c.args.self.now in
     let ps : List Packet = map g.F.Frame.packet c.args.packets.now in
     let x : Packet = g.F.Frame.packet c.args.slot.now in
-    let b : Engine = record { runs = c.push_reserved.new.self; next = a.next; flows = c.put.new.self; last = c.open_at-last.result } in
-    let last : c.open_at-last.result ≡ (if c.open.result.progress.is_open then Some c.len-place.result else None)
-    = subst (λ (z : Progress). c.open_at-last.result ≡ (if z.is_open then Some c.len-place.result else None)) (sym c.open.ensures.progress) c.open_at-last.ensures.place in
+    let b : Engine = record { runs = c.push_reserved.new.self; next = a.next; flows = c.follow.new.self; last = c.open_at-self.result } in
+    let same : c.args.progress ≡ c.open.result.progress = sym c.open.ensures.progress in
     let key : Option (List ℕ) = key_of x.frame in
-    let k : key_of (packet_at ps c.args.i).frame ≡ key = ap (λ (z : Packet). key_of z.frame) c.requires.here.1 in
-    let own : IsHashed ps c.args.i c.args.hash = (omega (arith, c.requires.here.0, length-map c.args.packets.now g.F.Frame.packet), c.requires.hash ∙ ap hash_of (sym k)) in
-    let puts = subst (λ (z : Option (List ℕ)). Puts ps a.flows z c.open_at-last.result c.put.new.self) k (c.put.ensures.puts ps) in
+    let group : Group = record { packet = c.args.i; hash = c.args.hash; run = c.len-place.result } in
+    let is : IsGroup ps group x = (omega (arith, c.requires.here.0, length-map c.args.packets.now g.F.Frame.packet), c.requires.here.1, c.requires.hash) in
+    let own : IsOwn ps a.flows key c.args.found = own_by ps a key c.args.found c.requires.runs.index c.requires.place in
+    let puts = c.follow.ensures.puts ps c.requires.runs.flows is own in
     record {
       takes = λ segs apart. begins_run segs ps c.args.i a b c.open.result c.requires.runs c.push_reserved.ensures.items refl
           (omega (arith, c.requires.here.0, length-map c.args.packets.now g.F.Frame.packet))
           c.open.ensures.indices.0 c.open.ensures.indices.1 c.open.ensures.indices.2
           (subst (λ z. Knows c.open.result z []) (sym c.requires.here.1) (c.open.ensures.knows x c.requires.judged c.requires.progress))
-          (λ n h. (omega (arith, h.0, c.push_reserved.ensures.len, c.push_reserved.ensures.capacity), c.put.ensures.room n h.1))
-          x key c.len-place.result c.requires.here.1 refl (omega (arith, c.len-place.ensures, a.runs.ok.0)) (c.put.ensures.flows ps c.requires.runs.flows own)
-          (subst (λ (z : Option ℕ). Puts ps a.flows key z c.put.new.self) last puts)
+          (λ n h. (omega (arith, h.0, c.push_reserved.ensures.len, c.push_reserved.ensures.capacity), c.follow.ensures.room n h.1))
+          x key c.len-place.result c.requires.here.1 refl (omega (arith, c.len-place.ensures, a.runs.ok.0)) (c.follow.ensures.flows ps c.requires.runs.flows is own)
+          (subst (λ (z : Progress). Puts ps a.flows key (if z.is_open then Some c.len-place.result else None) c.follow.new.self) same puts)
           (λ j e m.
           let t : Some j ≡ Some c.args.found = sym e ∙ c.requires.place in
           let s : j ≡ c.args.found = cc in
-          apart (subst (λ (z : ℕ). IsMergeableWithin segs (get_or (runs_of ps a) z [] ++ (x ∷ []))) s m)) last;
+          apart (subst (λ (z : ℕ). IsMergeableWithin segs (get_or (runs_of ps a) z [] ++ (x ∷ []))) s m))
+          (subst (λ (z : Progress). c.open_at-self.result ≡ (if z.is_open then Some c.len-place.result else None)) same c.open_at-self.ensures.place);
     }

@@ -1,13 +1,12 @@
-use Rattle.std.proofs.Common.{◌≡◌, ℕ, Option, Some, None, List, map, refl, sym, ap, ◌∙◌, subst, arith}
+use Rattle.std.proofs.Common.{◌≡◌, ◌+◌, ℕ, Option, Some, None, List, map, refl, sym, ap, ◌∙◌, subst, arith}
 use Rattle.std.specs.Prelude.{if◌then◌else◌}
 use Rattle.std.proofs.lemmas.List.{length-map}
 use Rattle.frame_layout.specs.Key.{key_of}
 use Rattle.pcap_io.specs.Capture.{Packet}
 use Rattle.frame_runs.specs.declared.engine.Engine.{Engine}
 use Rattle.frame_runs.specs.declared.flows.Flows.{Flows}
-use Rattle.frame_runs.specs.Chains.{packet_at}
-use Rattle.frame_runs.specs.Flows.{hash_of, place_of, IsHashed, AreFlows, Puts, HasRoom}
-use Rattle.frame_runs.proofs.Merging.{found_inside, taken_by}
+use Rattle.frame_runs.specs.Flows.{AreFlows, IsOwn}
+use Rattle.frame_runs.proofs.Merging.{found_inside, own_by, room_less, taken_by}
 use Rattle.frame_runs.proofs.engine.Engine.grow.Goals as goal
 
 pub link-is_open-requires-clause-inside : goal.link-is_open-requires-clause-inside
@@ -21,18 +20,13 @@ returns g c =
     let ps : List Packet = map g.F.Frame.packet c.args.packets.now in
     let x : Packet = g.F.Frame.packet c.args.slot.now in
     let key : Option (List ℕ) = key_of x.frame in
-    let k : key_of (packet_at ps c.args.i).frame ≡ key = ap (λ (z : Packet). key_of z.frame) c.requires.here.1 in
-    let own : IsHashed ps c.args.i c.args.hash = (omega (arith, c.requires.here.0, length-map c.args.packets.now g.F.Frame.packet), c.requires.hash ∙ ap hash_of (sym k)) in
     let flows : AreFlows ps b.flows = subst (AreFlows ps) (sym c.link-is_open.ensures.grows.flows) c.requires.runs.flows in
-    let there : place_of ps b.flows key ≡ Some c.args.found = subst (λ (z : Flows). place_of ps z key ≡ Some c.args.found) (sym c.link-is_open.ensures.grows.flows) c.requires.place in
-    let puts = subst (λ (z : Option (List ℕ)). place_of ps b.flows z ≡ Some c.args.found → Puts ps b.flows z (if c.link-is_open.result then Some c.args.found else None) c.keep.new.self) k
-    (c.keep.ensures.puts ps) there in
+    let own : IsOwn ps b.flows key c.args.found
+    = subst (λ (z : Flows). IsOwn ps z key c.args.found) (sym c.link-is_open.ensures.grows.flows) (own_by ps a key c.args.found c.requires.runs.index c.requires.place) in
     record {
       takes = λ segs m. taken_by segs ps c.args.i c.args.found c.link-is_open.result a b c.keep.new.self c.requires.runs
           (found_inside ps a key c.args.found c.requires.runs.index c.requires.place)
           c.link-is_open.ensures.grows x c.requires.here.1 key refl c.requires.place m
-          c.open_at-self.result c.open_at-self.ensures.place (c.keep.ensures.flows ps flows own) puts c.keep.ensures.room;
+          c.open_at-self.result c.open_at-self.ensures.place (c.keep.ensures.flows ps flows own) (c.keep.ensures.puts ps flows own)
+          (λ n h. c.keep.ensures.room n (room_less b.flows n (n + 1) (omega arith) h));
     }
-
-pub keep-requires : goal.keep-requires
-keep-requires g c = record { room = subst (λ (z : Flows). HasRoom z 1) (sym c.link-is_open.ensures.grows.flows) c.requires.places.1 }

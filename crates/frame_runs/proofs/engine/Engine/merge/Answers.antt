@@ -2,12 +2,12 @@ use Rattle.std.proofs.Common.{◌≡◌, ◌+◌, ◌-◌, List, map, length, su
 use Rattle.std.proofs.lemmas.List.{length-map}
 use Rattle.pcap_io.specs.Capture.{Packet}
 use Rattle.frame_runs.specs.Engine.{HasPlaces, AreRuns}
-use Rattle.frame_runs.proofs.Merging.{received_one, all_received, ready_received}
+use Rattle.frame_runs.proofs.Merging.{room_less, received_one, all_received, ready_received}
 use Rattle.frame_runs.proofs.engine.Engine.merge.Goals as goal
 
 pub receive-requires-clause-places : goal.receive-requires-clause-places
 receive-requires-clause-places g c =
-    (omega (arith, c.loop-i.invariant.1.0), omega (arith, c.loop-i.invariant.1.1))
+    (omega (arith, c.loop-i.invariant.1.0), room_less c.loop-i.self.flows 1 (length c.args.packets.now - c.loop-i.i) (omega arith) c.loop-i.invariant.1.1)
 
 pub loop-i-preserved : goal.loop-i-preserved
 loop-i-preserved g c =

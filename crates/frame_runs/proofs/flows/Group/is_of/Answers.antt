@@ -7,7 +7,7 @@ use Rattle.pcap_io.specs.Capture.{Packet}
 use Rattle.frame_runs.specs.Chains.{packet_at}
 use Rattle.frame_runs.specs.Flows.{hash_of}
 use Rattle.frame_runs.proofs.Merging.{slot_at}
-use Rattle.frame_runs.proofs.flows.Entry.is_of.Goals as goal
+use Rattle.frame_runs.proofs.flows.Group.is_of.Goals as goal
 
 pub returns-then-self-hash : goal.returns-then-self-hash
 returns-then-self-hash g c = record {
