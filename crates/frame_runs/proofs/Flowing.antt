@@ -218,8 +218,8 @@ module _ (ps : List Packet) (f g : Flows) (key : Option (List ℕ)) (at : ℕ) (
           = same_place (hash_of q) ∙ ap (λ z. place_at f z) (ap hash_of (sym (key_eq_same key q t) ∙ sym is) ∙ sym own.1) in (
             subst (λ z. 1 ≤ z) (sym w) held.0,
             (λ s.
-            let back : place_at f group.hash - 1 ≡ at = omega (arith, sym w ∙ s, v) in
-            not_at (place_at f group.hash - 1) held.1.0 held.1.1.0 back),
+                let back : place_at f group.hash - 1 ≡ at = omega (arith, sym w ∙ s, v) in
+                not_at (place_at f group.hash - 1) held.1.0 held.1.1.0 back),
           )
       | inr n ↦
           let o = flows.taken q k (sym (slots q ∙ ap (λ b. cond b (Some at) (slot_of f q)) n) ∙ e) in
@@ -266,6 +266,7 @@ module _ (ps : List Packet) (f g : Flows) (key : Option (List ℕ)) (at : ℕ) (
       place_own h same =
           ap (λ z. get_or z (bucket_in h) 0) places ∙ ap (λ z. get_or (set f.places (bucket_in group.hash) (at + 1)) z 0) same
           ∙ get_or-set_same f.places (bucket_in group.hash) (at + 1) 0 inside
+
       place_other : (h : ℕ) → bucket_in h ≢ bucket_in group.hash → place_at g h ≡ place_at f h
       place_other h other =
           ap (λ z. get_or z (bucket_in h) 0) places ∙ get_or-set_other f.places (bucket_in group.hash) (bucket_in h) (at + 1) 0 other
@@ -424,6 +425,7 @@ flows_none ps f none empty = record {
   where
     vacant : (k : ℕ) (g : Group) → get f.groups k ≡ Some g → ⊥
     vacant k g e = let u : None ≡ Some g = sym (ap (λ (z : List (Option Group)). get_or z k None) none) ∙ e in cc
+
     absent : (q : Option (List ℕ)) (k : ℕ) → slot_of f q ≡ Some k → ⊥
     absent q k e = let u : None ≡ Some k = sym (ap (lookup (key_eq q)) empty) ∙ e in cc
 
@@ -455,10 +457,12 @@ resized xs ys done n k l e i = ap (λ z. get_or z i 0) e ∙ at done
     zeros zero j = refl
     zeros (suc m) zero = refl
     zeros (suc m) (suc j) = zeros m j
+
     padded : (zs : List ℕ) (j : ℕ) → get_or (zs ++ replicate k 0) j 0 ≡ get_or zs j 0
     padded [] j = zeros k j
     padded (z ∷ zs) zero = refl
     padded (z ∷ zs) (suc j) = padded zs j
+
     at : (b : Bool) → get_or (if b then take n xs ++ replicate k 0 else xs) i 0 ≡ get_or xs i 0
     at true = ap (λ z. get_or (z ++ replicate k 0) i 0) (take_all n xs l) ∙ padded xs i
     at false = refl

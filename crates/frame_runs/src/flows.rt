@@ -303,7 +303,7 @@ impl Flows {
     {
         let key = key_in(slot);
         if let Some(at) = self.keys.remove(&key) {
-            let _closed = self.groups.try_remove(at);
+            let _group = self.groups.try_remove(at);
         }
     }
 

@@ -1,4 +1,4 @@
-use Rattle.std.proofs.Common.{◌≡◌, ℕ, Bool, Some, None, Option, List, sym, subst}
+use Rattle.std.proofs.Common.{ℕ, Bool, Some, None, Option, List, sym, subst}
 use Rattle.std.specs.Prelude.{if◌then◌else◌}
 use Rattle.frame_layout.specs.Key.{key_of}
 use Rattle.frame_runs.specs.declared.flows.Flows.{Flows}

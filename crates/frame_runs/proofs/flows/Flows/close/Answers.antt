@@ -1,11 +1,6 @@
-use Rattle.std.proofs.Common.{◌≡◌, ◌+◌, ◌-◌, ℕ, false, true, Some, None, Option, List, ap, sym, subst, arith, ◌∙◌}
-use Rattle.std.specs.Prelude.{if◌then◌else◌, IfSome}
-use Rattle.slab.specs.Slab.{Updates}
-use Rattle.pcap_io.specs.Capture.{Packet}
+use Rattle.std.proofs.Common.{◌≡◌, ℕ, false, true, Option, List, sym, ◌∙◌}
 use Rattle.frame_layout.specs.Key.{key_of}
-use Rattle.frame_runs.specs.declared.flows.Flows.{Flows}
-use Rattle.frame_runs.specs.Flows.{place_at, slot_of, hash_of, AreFlows, IsOwn, Puts}
-use Rattle.frame_runs.proofs.Flowing.{closed_here, closed_by_key, Closed}
+use Rattle.frame_runs.proofs.Flowing.{closed_here, closed_by_key}
 use Rattle.frame_runs.proofs.flows.Flows.close.Goals as goal
 
 pub returns-then-is_run-clause-flows : goal.returns-then-is_run-clause-flows

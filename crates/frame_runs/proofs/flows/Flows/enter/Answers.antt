@@ -1,12 +1,10 @@
-use Rattle.std.proofs.Common.{◌≡◌, ◌+◌, ◌<◌, ◌≤◌, ℕ, Bool, true, false, Some, None, Option, List, length, set, refl, sym, ap, subst, arith, ◌∙◌}
+use Rattle.std.proofs.Common.{◌≡◌, ◌+◌, ◌≤◌, true, false, Some, None, List, length, set, refl, sym, ap, subst, arith, ◌∙◌}
 use Rattle.std.specs.HashMap.{spare}
-use Rattle.slab.specs.Slab.{get}
 use Rattle.pcap_io.specs.Capture.{Packet}
 use Rattle.frame_layout.specs.Key.{key_of}
 use Rattle.frame_runs.specs.declared.flows.Group.{Group}
 use Rattle.frame_runs.specs.declared.flows.Flows.{Flows}
-use Rattle.frame_runs.specs.Chains.{packet_at}
-use Rattle.frame_runs.specs.Flows.{bucket_in, hash_of, key_at, place_of, AreFlows, IsGroup, IsHashed, IsTaken, Puts}
+use Rattle.frame_runs.specs.Flows.{hash_of, key_at, place_of, AreFlows, IsGroup, IsHashed, IsTaken, Puts}
 use Rattle.frame_runs.proofs.Flowing.{on_ok, flows_mapped, flows_placed, puts_opened}
 use Rattle.frame_runs.proofs.flows.Flows.enter.Given as given
 use Rattle.frame_runs.proofs.flows.Flows.enter.Goals.{After-insert_reserved-at}

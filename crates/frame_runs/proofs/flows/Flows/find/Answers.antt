@@ -1,5 +1,4 @@
-use Rattle.std.proofs.Common.{◌≡◌, ◌-◌, ℕ, Option, List, map, sym, ap, subst, ◌∙◌}
-use Rattle.pcap_io.specs.Capture.{Packet}
+use Rattle.std.proofs.Common.{◌≡◌, ◌-◌, ℕ, Option, List, map, sym, ap, ◌∙◌}
 use Rattle.slab.specs.Slab.{get}
 use Rattle.frame_layout.specs.Key.{key_of}
 use Rattle.frame_runs.specs.Flows.{hash_of, place_at}

@@ -1,4 +1,4 @@
-use Rattle.std.proofs.Common.{◌≡◌, ◌+◌, ℕ, Some, None, Option, List, sym, arith, ◌∙◌}
+use Rattle.std.proofs.Common.{◌+◌, ℕ, Some, None, Option, List}
 use Rattle.std.specs.Prelude.{if◌then◌else◌}
 use Rattle.frame_layout.specs.Key.{key_of}
 use Rattle.frame_runs.proofs.Flowing.{puts_again, puts_none}

@@ -1,4 +1,4 @@
-use Rattle.std.proofs.Common.{◌≡◌, ◌≤◌, ℕ, List, Option, length, refl, sym, ap, subst, arith}
+use Rattle.std.proofs.Common.{refl, sym, ap, subst, arith}
 use Rattle.std.specs.HashMap.{spare}
 use Rattle.slab.specs.Slab.{Slab}
 use Rattle.frame_runs.specs.declared.flows.Flows.{Flows}
