@@ -1,6 +1,6 @@
 //! The open group of each flow.
-ghost use Rattle.std.specs.Prelude.{◌≡◌, ◌+◌, ◌-◌, ◌<◌, ◌≤◌, ◌^◌, Option, Some, None, List, ℕ, length, map, IfOk, OnOk, IfSome};
-ghost use Rattle.std.specs.Prelude.{IfNone, IsTrue, IsSome, true, if◌then◌else◌};
+ghost use Rattle.std.specs.Prelude.{◌≡◌, ◌+◌, ◌<◌, Option, Some, None, List, ℕ, map, IfOk, OnOk, IfSome, IfNone, true};
+ghost use Rattle.std.specs.Prelude.{if◌then◌else◌};
 ghost use Rattle.std.specs.Bool.{Decides};
 ghost use Rattle.std.specs.HashMap.{IsEmpty};
 ghost use Rattle.std.specs.List.{AllByRecursion};
@@ -46,7 +46,12 @@ impl Model for Flows {
 
     ghost Value = { OpenGroups };
 
-    ghost view = { λ f. record { groups = f.groups; entries = f.keys.entries; room = spare f.keys; places = f.places.items } };
+    ghost view = { λ f. record {
+      groups = f.groups;
+      entries = f.keys.entries;
+      room = spare f.keys;
+      places = f.places.items;
+    } };
 }
 
 impl Group {

@@ -48,12 +48,13 @@
 //! ```
 //!
 //! Its parts: `frame` (the trait), `lent` (a frame in one slice), `candidacy` (a packet judged by its head and its
-//! payload's sum, and whether two are of one flow), `flow_hash` (a hash of a packet's flow), `flows` (the open run of
-//! each flow), `run` (a run by index, and whether it takes one more packet), `engine` (the runs of a list, in the order
-//! of their first packets, and how they are linked), `merged_run` (what a run comes to, as its packets lie).
+//! payload's sum, its key, and whether two are of one flow), `flow_hash` (a hash of a packet's flow), `flows` (the open
+//! group of each flow), `run` (a run by index, and whether it takes one more packet), `engine` (the runs of a list, in
+//! the order of their first packets, and how they are linked), `merged_run` (what a run comes to, as its packets lie).
 //! `specs/Frames.antt` says what the front of a frame is, `specs/Chains.antt` what a chain of indices is,
-//! `specs/Engine.antt` what is known of an engine and what one more packet does, `specs/Index.antt` what is found of a
-//! flow, `specs/MergedRun.antt` where a run's headers end. `proofs/Payloads.antt` has the laws that a reader of a run's
+//! `specs/Engine.antt` what is known of an engine and what one more packet does, `specs/OpenGroups.antt` and
+//! `specs/Flows.antt` what open groups are and how each is found, `specs/Index.antt` what is found of a flow,
+//! `specs/MergedRun.antt` where a run's headers end. `proofs/Payloads.antt` has the laws that a reader of a run's
 //! payloads needs, `proofs/Chains.antt`, `proofs/Merging.antt` and `proofs/Growing.antt` those of who keeps packets
 //! beside an engine.
 //!
@@ -75,18 +76,25 @@
 //!   (`are_more`).
 //! - **A packet that a run takes is of the run's flow** (`flow` of `takes`), by the law that headers alike make keys
 //!   equal (`alike_keeps_key`): the last packet's run may be asked before anything is known of the packet.
-//! - **Only open runs are found**, and a flow's last entry tells its run: a run that is opened or closed is one entry
-//!   more in front of the others, and none is changed. So a packet has one entry at most, an entry's chain behind it
-//!   stays as it was, and what a flow finds is a function of the list of entries alone (`last_in`), without a bucket.
-//!   A packet that can't be merged asks only where there are entries, since it may end a flow's run.
-//! - **Entries of one bucket are a chain**, by a hash of a key's last words: 128 buckets, a kilobyte to clear in a
-//!   round that had entries. Nothing is asked of the hash but that it is a function of the key (`IsHashed`), so an
-//!   entry with another hash is of another flow, and a flow whose bucket is empty is new without a look at any.
-//! - **An entry names a packet of its flow, and has no key**: 32 bytes, where a key has room for 120. The key is that
-//!   of the packet's frame, and two packets are compared where their headers lie (`is_flow_of`); the hash is read there
-//!   as well, in four words at fixed places where the headers are the plain ones. What is said of flows ranges over
-//!   every key, so that a frame without a shape goes the way of any packet that can't be merged, which opens a run that
-//!   isn't found. All memory for entries is taken in `make` and `start`.
+//! - **Open groups stand in a slab, each of a flow of its own**, and only these are found: a group that closes leaves
+//!   it. What a flow finds is told by the slab alone (`place_of`), in whatever order that has them; how each is found
+//!   is known beside it (`AreFlows`). A packet that can't be merged asks only where a group is open, since it may end a
+//!   flow's run.
+//! - **A table of 256 places stands in front of std's map**, a place by a hash of the key's last words, read where they
+//!   lie in plain headers. What stands there is believed only where the packet is of its flow (`is_same_flow`), so
+//!   there is no chain, and what a closed group left there does no harm. Nothing is asked of the hash but that it is a
+//!   function of the key (`IsHashed`).
+//! - **The map has the groups whose place another open group has**, from the flow's key to the slab's. Where a place
+//!   was empty ever since the last `clear`, no open group has its hash, and the map isn't asked (`taken` of
+//!   `AreFlows`). So a key of 120 bytes is put together only where flows meet at a place: to enter each group in the
+//!   map would cost every flow's first packet that, a hash and some moves of the key. Flows that are chosen to meet at
+//!   one place all go to the map, whose own hash is of all bytes of the key, with a seed that is fixed.
+//! - **A group has the index of its run and of a packet of its flow**, the hash, and no key: the key is that of the
+//!   packet's frame, and two packets are compared where their headers lie (`is_flow_of`). What the run has come to
+//!   (`Progress`) stays in the run, where it is read with the layout and the sum, and where a closed run's still has to
+//!   be known. All memory for groups, table and map is taken in `make` and `start`.
+//! - **`Flows` has private fields and a view** (`OpenGroups`): the slab, the map's entries, how many more fit, and the
+//!   table. The map's hasher isn't in it, so each type that holds an engine has a code.
 //! - **The last packet's run is asked first, by its layout.** The headers are compared before they are read: where they
 //!   are alike, the packet has the run's layout (`alike_keeps_shape`), which isn't looked for again, and only its
 //!   lengths and sums are judged (`addition` of `Run`). Where another flow's packet comes the first comparison ends it.
