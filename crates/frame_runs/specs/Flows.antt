@@ -60,14 +60,18 @@ IsTaken f hash =
 abbrev pub IsHashed : List Packet → ℕ → ℕ → Type 0
 IsHashed ps packet hash = (packet < length ps) × (hash ≡ hash_of (key_of (packet_at ps packet).frame))
 
--- each group is of a flow of its own, and is found: where it doesn't stand at its hash's place, the map has it; and the
--- map has no other
+-- each group is of a flow of its own, and stands at its hash's place, or the map has it; the map has these alone, at
+-- whose places something else has stood
 pub record AreFlows (ps : List Packet) (f : Flows) : Type 0 where
   pub hashed : (k : ℕ) (g : Group) → get f.groups k ≡ Some g → IsHashed ps g.packet g.hash
-  pub alone : (j k : ℕ) (g h : Group) → get f.groups j ≡ Some g → get f.groups k ≡ Some h → key_at ps g ≡ key_at ps h → j ≡ k
-  pub reached : (k : ℕ) (g : Group) → get f.groups k ≡ Some g → (slot_of f (key_at ps g) ≡ Some k) ⊎ (place_at f g.hash ≡ k + 1)
-  pub live : (q : Option (List ℕ)) (k : ℕ) → slot_of f q ≡ Some k → (g : Group) × ((get f.groups k ≡ Some g) × (key_at ps g ≡ q))
-  pub taken : (q : Option (List ℕ)) (k : ℕ) → slot_of f q ≡ Some k → (1 ≤ place_at f (hash_of q)) × (place_at f (hash_of q) ≢ k + 1)
+  pub alone : (j k : ℕ) (g h : Group) → get f.groups j ≡ Some g → get f.groups k ≡ Some h
+      → key_at ps g ≡ key_at ps h → j ≡ k
+  pub reached : (k : ℕ) (g : Group) → get f.groups k ≡ Some g
+      → (slot_of f (key_at ps g) ≡ Some k) ⊎ (place_at f g.hash ≡ k + 1)
+  pub live : (q : Option (List ℕ)) (k : ℕ) → slot_of f q ≡ Some k
+      → (g : Group) × ((get f.groups k ≡ Some g) × (key_at ps g ≡ q))
+  pub taken : (q : Option (List ℕ)) (k : ℕ) → slot_of f q ≡ Some k
+      → (1 ≤ place_at f (hash_of q)) × (place_at f (hash_of q) ≢ k + 1)
 
 -- the flow with this key has this, and each other flow keeps its own
 abbrev pub Puts : List Packet → Flows → Option (List ℕ) → Option ℕ → Flows → Type 0
@@ -83,7 +87,8 @@ HasRun f at run = (1 ≤ at) × ((g : Group) × ((get f.groups (at - 1) ≡ Some
 
 -- the open run at this place is that of the flow with this key, and of no other
 abbrev pub IsOwn : List Packet → Flows → Option (List ℕ) → ℕ → Type 0
-IsOwn ps f key place = (place_of ps f key ≡ Some place) × ((q : Option (List ℕ)) → place_of ps f q ≡ Some place → key ≡ q)
+IsOwn ps f key place =
+    (place_of ps f key ≡ Some place) × ((q : Option (List ℕ)) → place_of ps f q ≡ Some place → key ≡ q)
 
 -- so many more flows have room
 pub record HasRoom (f : Flows) (n : ℕ) : Type 0 where

@@ -1,8 +1,8 @@
 //! The open group of each flow.
-ghost use Rattle.std.specs.Prelude.{◌≡◌, ◌+◌, ◌<◌, Option, Some, None, List, ℕ, map, IfOk, OnOk, IfSome, IfNone, true};
+ghost use Rattle.std.specs.Prelude.{◌≡◌, ◌+◌, ◌<◌, ◌≤◌, Option, Some, None, List, ℕ, map, IfOk, OnOk, IfSome, IfNone, true};
 ghost use Rattle.std.specs.Prelude.{if◌then◌else◌};
 ghost use Rattle.std.specs.Bool.{Decides};
-ghost use Rattle.std.specs.HashMap.{IsEmpty};
+ghost use Rattle.std.specs.HashMap.{IsEmpty, Updates as UpdatesKey, spare};
 ghost use Rattle.std.specs.List.{AllByRecursion};
 ghost use Rattle.pcap_io.specs.Capture.{Packet};
 ghost use Rattle.slab.specs.Slab.{get, Updates};
@@ -21,6 +21,7 @@ use std::alloc::{AllocError, Global};
 use std::collections::HashMap;
 use std::marker::Model;
 
+/// The places of the table.
 const PLACES: usize = 256;
 
 /// The open group of a flow: a packet of the flow, the hash of its key, and the place of its run in the list of runs.
@@ -87,6 +88,19 @@ fn clear_keys(keys: &mut HashMap<Key, usize>)
     if !keys.is_empty() {
         keys.clear();
     }
+}
+
+/// The key of a packet's flow leads to this key of the slab. It isn't inlined, since the room for it is set to zero
+/// where it is.
+#[inline(never)]
+fn enter_key<F: Frame>(keys: &mut HashMap<Key, usize>, slot: &F, at: usize)
+    requires slot { F.is_held slot.now }
+    requires room { 1 ≤ spare keys.old }
+    ensures entered { UpdatesKey key_eq keys.old keys.new (key_of (F.packet slot.now).frame) (Some at) }
+    ensures room { spare keys.old ≤ spare keys.new + 1 }
+{
+    let key = key_in(slot);
+    let _none = keys.insert(key, at);
 }
 
 impl Flows {
@@ -191,7 +205,7 @@ impl Flows {
         }
     }
 
-    /// The run of a packet's flow, where the map has its group.
+    /// The run of a packet's flow, where the map has its group. It isn't inlined, for the same reason.
     #[inline(never)]
     fn run_by_key<F: Frame>(&self, slot: &F, candidacy: &Candidacy) -> Option<usize>
         requires slot { F.is_held slot.now }
@@ -275,11 +289,11 @@ impl Flows {
         ensures room { (n : ℕ) → HasRoom self.old (n + 1) → HasRoom self.new n }
     {
         let is_taken = self.is_taken(group.hash);
+        // A key of the slab is below that, so that it can be counted from 1.
         let _ = self.groups.capacity();
         let at = self.groups.insert_reserved(group);
         if is_taken {
-            let key = key_in(slot);
-            let _none = self.keys.insert(key, at);
+            enter_key(&mut self.keys, slot, at);
         } else {
             self.places[bucket(group.hash)] = at + 1;
         }

@@ -5,7 +5,7 @@ use Rattle.frame_layout.specs.Key.{key_of}
 use Rattle.frame_runs.specs.declared.flows.Group.{Group}
 use Rattle.frame_runs.specs.declared.flows.Flows.{Flows}
 use Rattle.frame_runs.specs.Flows.{hash_of, key_at, place_of, AreFlows, IsGroup, IsHashed, IsTaken, Puts}
-use Rattle.frame_runs.proofs.Flowing.{on_ok, flows_mapped, flows_placed, puts_opened}
+use Rattle.frame_runs.proofs.Flowing.{flows_mapped, flows_placed, puts_opened}
 use Rattle.frame_runs.proofs.flows.Flows.enter.Given as given
 use Rattle.frame_runs.proofs.flows.Flows.enter.Goals.{After-insert_reserved-at}
 use Rattle.frame_runs.proofs.flows.Flows.enter.Goals as goal
@@ -28,12 +28,10 @@ returns-then-is_taken-clause-flows g c = λ ps flows is none.
     let at = (goal.at.returns-then-is_taken-clause-flows g c).After-insert_reserved-at in
     let f : Flows = before g at in
     let p : Packet = g.F.Frame.packet c.args.slot.now in
-    let room : 1 ≤ spare c.self.inside.keys = subst (λ (z : Flows). 1 ≤ z.room) (sym c.self.view_is) c.requires.room.entries in
-    let slots = on_ok c.insert-none.result c.insert-none.ensures.updates (c.insert-none.ensures.succeeds room) in
-    flows_mapped ps f _ c.key_in-key.result c.insert_reserved-at.result c.args.group (subst (AreFlows ps) (sym c.self.view_is) flows)
-    (subst (λ (z : Flows). place_of ps z c.key_in-key.result ≡ None) (sym c.self.view_is) (ap (place_of ps c.args.self.now) c.key_in-key.ensures.key ∙ none))
-    (own_key ps p c.args.group is ∙ sym c.key_in-key.ensures.key) (own_hash ps p c.args.group is) c.insert_reserved-at.ensures.was_vacant
-    c.insert_reserved-at.ensures.updates.changed c.insert_reserved-at.ensures.updates.others slots.0 refl
+    flows_mapped ps f _ (key_of p.frame) c.insert_reserved-at.result c.args.group (subst (AreFlows ps) (sym c.self.view_is) flows)
+    (subst (λ (z : Flows). place_of ps z (key_of p.frame) ≡ None) (sym c.self.view_is) none)
+    (own_key ps p c.args.group is) (own_hash ps p c.args.group is) c.insert_reserved-at.ensures.was_vacant
+    c.insert_reserved-at.ensures.updates.changed c.insert_reserved-at.ensures.updates.others c.enter_key.ensures.entered.0 refl
     (subst (λ (z : Flows). IsTaken z c.args.group.hash) (sym c.self.view_is) (c.is_taken-is_taken.ensures.taken.0 c.if-is_taken.true))
 
 pub returns-then-is_taken-clause-puts : goal.returns-then-is_taken-clause-puts
