@@ -94,10 +94,6 @@ pub chain_step : (next : List ℕ) (left k : ℕ) → 0 < left → chain_of next
 chain_step next zero k h = absurd (omega (arith, h))
 chain_step next (suc n) k h = ap (λ z. k ∷ chain_of next z (get_or next k 0)) (let e : n ≡ suc n - 1 = omega arith in e)
 
-pub length-chain : (next : List ℕ) (n k : ℕ) → length (chain_of next n k) ≡ n
-length-chain next zero k = refl
-length-chain next (suc n) k = omega (arith, length-chain next n (get_or next k 0))
-
 -- ---- sums over indices
 
 pub sum_append : (f : ℕ → ℕ) (ks js : List ℕ) → index_sum f (ks ++ js) ≡ index_sum f ks + index_sum f js

@@ -22,7 +22,7 @@ use Rattle.frame_runs.specs.declared.engine.Engine.{Engine}
 use Rattle.frame_runs.specs.Flows.{place_of, AreFlows, IsOwn, Puts, HasRoom}
 use Rattle.frame_runs.specs.Index.{IsShut, IsIndexOf, IsLatest}
 use Rattle.frame_runs.specs.Chains.{chain_of, behind, indices, last_in, packet_at, run_of, index_sum, index_sums, sum_below, AreSharedOut, mark}
-use Rattle.frame_runs.specs.Engine.{Knows, TakesOne, IsChain, runs_of, chains_of, AreRuns, Grows, HasPlaces, Takes}
+use Rattle.frame_runs.specs.Engine.{Knows, IsChain, runs_of, chains_of, AreRuns, Grows, HasPlaces, Takes}
 use Rattle.frame_runs.proofs.Keys.{keys_equiv}
 pub use Rattle.frame_runs.proofs.Flowing.{room_less}
 use Rattle.frame_runs.proofs.Indexing.{found_last, own_last, index_grows, takes_grows, index_opens, takes_opens, index_none, latest_of}
@@ -119,9 +119,6 @@ module _ (ps : List Packet) (i place : ℕ) (a : Engine) (old : Run) (each : All
 
     pub run_is : get_or (runs_of ps a) place [] ≡ p ∷ others_of
     run_is = run_there ∙ ap (λ z. z ∷ others_of) ep
-
-    pub takes_one : (x : Packet) → IsMergeable (get_or (runs_of ps a) place [] ++ (x ∷ [])) → TakesOne old p x
-    takes_one x m = (others_of, (known_at, subst (λ (z : List Packet). IsMergeable (z ++ (x ∷ []))) run_is m))
 
     pub knows_linked : (new : Run) (x : Packet) → packet_at ps i ≡ x
         → ((rest : List Packet) → Knows old p rest → IsMergeable ((p ∷ rest) ++ (x ∷ [])) → Knows new p (rest ++ (x ∷ [])))

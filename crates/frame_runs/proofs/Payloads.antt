@@ -1,10 +1,9 @@
 -- The payloads of a run's packets, as they lie.
-use Rattle.std.proofs.Common.{◌≡◌, ℕ, ◌<◌, ◌≤◌, List, ◌∷◌, length, get_or, map, refl, subst, sym}
+use Rattle.std.proofs.Common.{ℕ, ◌<◌, ◌≤◌, List, ◌∷◌, length, get_or, subst, sym}
 use Rattle.std.specs.List.{AllByRecursion}
 use Rattle.pcap_io.specs.Capture.{Packet}
 use Rattle.frame_runs.specs.declared.run.Run.{Run}
 use Rattle.frame_runs.specs.declared.engine.Engine.{Engine}
-use Rattle.frame_runs.specs.Chains.{behind, packet_at, run_of}
 use Rattle.frame_runs.specs.Engine.{Knows, IsChain, AreRuns}
 use Rattle.frame_runs.specs.MergedRun.{headers_size}
 use Rattle.frame_runs.proofs.RunItems as items
@@ -29,6 +28,3 @@ all_within run p rest k several =
 
 pub chain_at : (ps : List Packet) (n : ℕ) (e : Engine) (i : ℕ) (d : Run) → AreRuns ps n e → i < length e.runs.items → IsChain ps e.next.items (get_or e.runs.items i d)
 chain_at ps n e i d are inside = all_at (IsChain ps e.next.items) e.runs.items i d are.each inside
-
-pub run_is : (ps : List Packet) (next : List ℕ) (run : Run) → run_of ps next run ≡ packet_at ps run.first ∷ map (packet_at ps) (behind next run)
-run_is ps next run = refl
