@@ -1,3 +1,4 @@
+mod Leaving
 mod Lining
 mod Telling
 mod Prefixes

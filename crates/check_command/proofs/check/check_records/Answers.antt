@@ -6,6 +6,11 @@ use Rattle.rounds.specs.Merging.{options_of as rounds_options}
 use Rattle.check_command.specs.Checking.{first_line}
 use Rattle.command_answers.specs.Output.{options}
 use Rattle.check_command.proofs.Telling.{none_checked, from_nothing, all_checked}
+use Rattle.std.proofs.Common.{ℕ, List, ap, ◌∙◌}
+use Rattle.pcap_io.specs.Places.{found_at}
+use Rattle.offload_model.specs.Need.{round_need}
+use Rattle.rounds.specs.RoundsState.{RoundsState}
+use Rattle.check_command.proofs.Leaving.{none_left_memory, taken_first}
 use Rattle.check_command.proofs.check.check_records.Goals as goal
 
 pub returns-in-Err-clause-given : goal.returns-in-Err-clause-given
@@ -27,3 +32,34 @@ returns-clause-given g c =
     c.count_behind-end.result c.tell.result c.in-Ok.ensures.made
     (from_nothing c.args.options c.in-Ok.rounds c.in-Ok-make.totals c.in-Ok.ensures.made c.in-Ok-make.ensures.made)
     c.count_behind-end.ensures.given c.tell.ensures.told c.count_behind-end.ensures.read
+
+pub returns-in-Err-make-clause-left : goal.returns-in-Err-make-clause-left
+returns-in-Err-make-clause-left g c =
+    none_left_memory c.args.options.blocks _ c.args.engine.now _ _ c.requires.engine
+
+pub returns-clause-left : goal.returns-clause-left
+returns-clause-left g c =
+    let made = c.in-Ok.ensures.made in
+    let m = c.count_behind-end.ensures in
+    let s = c.tell.ensures in
+    let blocks = m.same ∙ ap (λ (r : RoundsState). r.blocks) made in
+    let home = m.home ∙ blocks in
+    let need = λ (rest : List ℕ). round_need (found_at (first_place c.args.file Ethernet 0) rest).packets in
+    let none = ap (λ (r : RoundsState). r.taken) made in
+    record {
+      blocks = s.blocks;
+      engine = λ ok. (blocks, home, taken_first need _ _ _ _ none (m.taken (s.done ok)));
+      home = (blocks, home);
+    }
+
+pub returns-clause-caused : goal.returns-clause-caused
+returns-clause-caused g c =
+    let m = c.count_behind-end.ensures in
+    let s = c.tell.ensures in
+    record {
+      not_usage = s.not_usage;
+      later = m.later;
+      later_sink = s.later;
+      read = λ is. m.read (s.read is);
+      write = s.write;
+    }
