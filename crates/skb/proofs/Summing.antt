@@ -1,7 +1,7 @@
 -- The sum of a buffer's bytes.
 use Rattle.std.proofs.Common.{◌≡◌, ℕ, zero, suc, ◌+◌, ◌-◌, ◌≤◌, ◌<◌, ◌^◌, List, [], ◌∷◌, ◌++◌, length, get_or, take}
 use Rattle.std.proofs.Common.{drop, sym, ap, ◌∙◌, arith, append_assoc, length-append, length-drop}
-use Rattle.std.proofs.lemmas.List.{drop_more, drop-append-le, take_all}
+use Rattle.std.proofs.lemmas.List.{append-nil, drop_more, drop_all, drop-append-le, take_all}
 use Rattle.inet_sum.specs.Stands.{FoldAndLength, StandsFor}
 use Rattle.frags.specs.PieceList.{bytes_of, piece_bytes}
 use Rattle.frags.specs.declared.pieces.Piece.{Piece}
@@ -24,6 +24,16 @@ summed_front s at sum h st b = record {
   whole = sym (drop-append-le at (head_bytes s) (bytes_of s.rest) h);
   in_bytes = b;
 }
+
+-- no piece is left
+pub summed_all : (s : SkbState) (at i : ℕ) (sum : FoldAndLength) (is : IsSummed s at i sum) → length s.rest ≤ i
+    → is.done ≡ drop at (buffer_bytes s)
+summed_all s at i sum is end =
+    sym (append-nil is.done) ∙ ap (λ (ps : List Piece). is.done ++ bytes_of ps) (sym (drop_all i s.rest end)) ∙ is.whole
+
+pub summed_len : (f done : List ℕ) (at len h r : ℕ) → done ≡ drop at f → len ≡ length done → at ≤ h → h + r ≡ length f
+    → len + at ≡ h + r
+summed_len f done at len h r is size inside all = omega (arith, ap length is, size, inside, all, length-drop at f)
 
 pub piece_first : (ps : List Piece) (i : ℕ) (p : List ℕ) → i < length ps
     → ((d : Piece) → p ≡ piece_bytes (get_or ps i d)) → bytes_of (drop i ps) ≡ p ++ bytes_of (drop (i + 1) ps)
