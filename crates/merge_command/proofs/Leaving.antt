@@ -21,8 +21,12 @@ module _ (n : ℕ) (need : List ℕ → ℕ) (left : Option RoundsState) (a b : 
     None) where
   pub none_left : (status : Status) → HasBlocks n status → (status ≡ statuses.Ok → ⊥)
       → LeavesMerge n need status left a b
-  none_left status blocks off = record { blocks = blocks; engine = λ ok. absurd (off ok); home = subst (IsMergeHome n)
-      (sym none) tt }
+  none_left status blocks off = record {
+    blocks = blocks;
+    engine = λ ok. absurd (off ok);
+    home = subst (IsMergeHome n)
+        (sym none) tt;
+  }
 
   -- a file header that is refused or can't be read
   pub none_left_refused : (fault : InFault) (status : Status) → IsStatusFor fault status
@@ -49,8 +53,8 @@ captured_by n budget place ends.NoMemory a b told = told
 -- rounds that had taken no block
 pub taken_first : (need : List ℕ → ℕ) (old now : ℕ) (a b : Option (List ℕ)) → old ≡ 0
     → Told a b (λ rest left. min (old + need rest) (2 ^ 64 - 1) ≤ now)
-        → Told a b (λ rest left. min (need rest) (2 ^ 64 - 1) ≤ now)
+    → Told a b (λ rest left. min (need rest) (2 ^ 64 - 1) ≤ now)
 taken_first need old now a b none told =
     Told-weaker a b (λ rest left. min (old + need rest) (2 ^ 64 - 1) ≤ now) (λ rest left. min (need rest) (2 ^ 64 -
-        1) ≤ now)
+    1) ≤ now)
     (λ rest left low. omega (arith, low, none)) told

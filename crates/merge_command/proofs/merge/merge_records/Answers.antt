@@ -22,9 +22,9 @@ returns-clause-given g c =
     let old = g.K.Sink.held c.args.sink.now in
     let new = g.K.Sink.held m.new.sink in
     subst (λ (e : Option Ending). Told a b (Ends (Passes (merging o.blocks (options o) place) old new) e)) (sym
-        c.status_of.ensures.ending)
+    c.status_of.ensures.ending)
     (subst (λ (r : RoundsState). Told a b (Passes (merging r.blocks (rounds_options r) place) old new (merge_ending
-        m.result))) c.in-Ok.ensures.made m.ensures.given)
+    m.result))) c.in-Ok.ensures.made m.ensures.given)
 
 pub returns-clause-captured : goal.returns-clause-captured
 returns-clause-captured g c =
@@ -34,10 +34,10 @@ returns-clause-captured g c =
     let a = g.S.Source.left c.args.source.now in
     let b = g.S.Source.left m.new.source in
     subst (λ (s : Status). Told a b (OfRead (AreCapturedWithin o.blocks o.budget place) s)) (sym
-        c.status_of.ensures.is)
+    c.status_of.ensures.is)
     (captured_by o.blocks o.budget place m.result a b
     (subst (λ (r : RoundsState). Told a b (HoldsCaptured r.blocks r.budget place m.result)) c.in-Ok.ensures.made
-        m.ensures.captured))
+    m.ensures.captured))
 
 pub returns-clause-left : goal.returns-clause-left
 returns-clause-left g c =
@@ -49,8 +49,12 @@ returns-clause-left g c =
     let need = λ (rest : List ℕ). round_need (found_at (first_place c.args.file Ethernet 0) rest).packets in
     record {
       blocks = s.blocks;
-      engine = λ ok. (blocks, home, taken_first need _ _ _ _ (ap (λ (r : RoundsState). r.taken) made) (m.ensures.taken
-          (s.done ok)));
+      engine = λ ok. (
+        blocks,
+        home,
+        taken_first need _ _ _ _ (ap (λ (r : RoundsState). r.taken) made) (m.ensures.taken
+            (s.done ok)),
+      );
       home = (blocks, home);
     }
 
@@ -58,5 +62,10 @@ pub returns-clause-caused : goal.returns-clause-caused
 returns-clause-caused g c =
     let m = c.merge_behind-end.ensures in
     let s = c.status_of.ensures in
-    record { not_usage = s.not_usage; later = m.later; later_sink = m.later_sink; read = λ is. m.read (s.read is);
-        write = λ is. m.write (s.write is) }
+    record {
+      not_usage = s.not_usage;
+      later = m.later;
+      later_sink = m.later_sink;
+      read = λ is. m.read (s.read is);
+      write = λ is. m.write (s.write is);
+    }

@@ -14,7 +14,7 @@ returns-in-Some c =
     let ready = c.self.invariant in
     let at = subst (λ (z : SegmentsState). IsPayloadPlace z i from) (sym c.self.view_is) c.requires.at in
     let part = c.in-Some.ensures.part (drop g.cut.layout.payload_at (buffer_bytes g.skb)) ready.known (last_all g i from
-        ready at) in
+    ready at) in
     record {
       sum = subst (λ (z : SegmentsState). StandsFor c.in-Some.sum (own_at z from)) c.self.view_is (known_sum g i from
           ready at c.in-Some.sum part);

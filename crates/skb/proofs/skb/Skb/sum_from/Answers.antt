@@ -17,7 +17,7 @@ loop-i-init c =
         ap length c.head.ensures.bytes,
       ))
           (subst (StandsFor c.add.new.sum) e (c.add.ensures.sum [] c.new-sum.ensures.sum)) (subst AreBytes e
-              c.add.ensures.in_bytes);
+          c.add.ensures.in_bytes);
     }
 
 pub add-requires-in-loop-i : goal.add-requires-in-loop-i
