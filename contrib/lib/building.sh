@@ -228,7 +228,13 @@ in_group() {
   wait "$group"
   status=$?
   trap - HUP INT TERM
+  forget_lanes
   return $status
+}
+
+# What lanes were proved stays there, but their lists of crates go: rt ci takes no second one in a tree.
+forget_lanes() {
+  rm -f -- "$lanes"/*/crates.txt
 }
 
 # Ends the group, and then this script by the signal that came.
@@ -237,6 +243,7 @@ end_with() {
   kill -TERM -- "-$group" 2>/dev/null
   wait "$group" 2>/dev/null
   kill -KILL -- "-$group" 2>/dev/null
+  forget_lanes
   say "the build was ended; what is proved is kept"
   trap - "$1"
   kill -s "$1" $$
