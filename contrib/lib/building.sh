@@ -172,15 +172,32 @@ all_below() {
     }'
 }
 
-# Keeps what is read in the log, and says how far the proving is, of so many crates.
+# Seconds that are left of a build that began so many ago, by what is left on the longest way and of all, beside what was done of both; nothing before
+# a tenth of that way is done. Lines are those of `ways` that are left.
+seconds_left() {
+  awk -v seconds="$1" -v way="$2" -v all="$3" '
+    { if ($1 > longest) longest = $1; sum += $2 }
+    END {
+      if (sum == 0 || longest > 0.9 * way) exit
+      left = seconds * longest / (way - longest)
+      other = seconds * sum / (all - sum)
+      print int(left > other ? left : other)
+    }'
+}
+
+# Keeps what is read in the log, and says how far the proving of these crates is, lines of `ways`, and about how long it takes yet.
 tell() {
-  local began=$SECONDS at=0 line
+  local began=$SECONDS at=0 line name rest=$1 count way all seconds
+  read -r count way all < <(awk '{ if ($1 > way) way = $1; all += $2 } END { print NR, way + 0, all + 0 }' <<<"$rest")
   while IFS= read -r line; do
     printf '%s\n' "$line" >&3
     case $line in
       *': done')
         at=$((at + 1))
-        say "$at of $1 crates, after $((SECONDS - began)) seconds: ${line%: done}"
+        name=${line%: done}
+        rest=$(grep -v " $name\$" <<<"$rest")
+        seconds=$(seconds_left $((SECONDS - began)) "$way" "$all" <<<"$rest")
+        say "$at of $count crates, after $((SECONDS - began)) seconds${seconds:+, some $((seconds / 60 + 1)) minutes left}: $name"
         ;;
       *': rt: waiting for another rt'* | *'; waiting for it,'*) say "${line#*rt: }" ;;
     esac
@@ -198,11 +215,12 @@ prove_and_build() (
   exec 3>>"$log" || exit 1
   set -o pipefail
   mapfile -t changed < <(to_prove "$1" | grep -v "^$crate ")
+  asked=$(printf '%s\n' "${changed[@]}" "$crate 0" | grep . | ways)
   count=$(count_lanes)
   may_share || count=1
   {
     { [ ${#changed[@]} = 0 ] || prove_below "$count" < <(printf '%s\n' "${changed[@]}"); } && named "$crate" make_product && rm -rf -- "$lanes"
-  } 3>&- | tell $((${#changed[@]} + 1))
+  } 3>&- | tell "$asked"
 )
 
 # The end of the log, and before it the lines on what was refused, of the crates that aren't proved.

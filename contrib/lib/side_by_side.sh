@@ -50,21 +50,31 @@ prove_one() {
   cd -- "$(lane_folder "$1")/crates/$3" && rt lib --jobs "$2" </dev/null
 }
 
-# Of lines "NAME BYTES", the names, those first whose way to the product has the most bytes: their own, 9,000 for what each crate costs, and those
-# of the longest way above them.
-longest_first() {
-  awk '
-    NR == FNR { bytes[$1] = $2; asked[$1]; next }
-    { split($0, words, ":"); below[words[1]] = words[2]; order[++count] = words[1] }
+# Of lines "NAME BYTES", lines "WAY OWN NAME", the longest way first: what the crate costs, in bytes, and what it and the longest way from there to
+# the product cost. A crate costs its own bytes, 20,000 for the start, and one for 20 bytes that are read of those below; the product is compiled
+# as a whole besides.
+ways() {
+  awk -v product="$crate" '
+    NR == FNR { bytes[$1] = $2; next }
+    {
+      split($0, words, ":")
+      own = words[1]
+      order[++count] = own
+      below[own] = words[2]
+      read = 0
+      many = split(words[2], names, " ")
+      for (i = 1; i <= many; i++) if (names[i] != own) read += bytes[names[i]]
+      cost[own] = 20000 + bytes[own] + int(read / 20) + (own == product ? 500000 : 0)
+    }
     END {
       for (i = count; i > 0; i--) {
         own = order[i]
-        way[own] += bytes[own] + 9000
+        way[own] += cost[own]
         many = split(below[own], names, " ")
         for (j = 1; j <= many; j++) if (names[j] != own && way[names[j]] < way[own]) way[names[j]] = way[own]
       }
-      for (own in asked) print way[own], own
-    }' - <(all_below) | sort -rn | sed 's/.* //'
+      for (own in bytes) print way[own], cost[own], own
+    }' - <(all_below) | sort -rn
 }
 
 # is_ready NAME: nothing that it stands on is left to prove or being proved.
@@ -117,7 +127,7 @@ prove_below() {
   local -A bytes_of=() stands=() running=() lane_of=() jobs_of=()
   lines=$(</dev/stdin)
   while read -r name bytes; do bytes_of[$name]=$bytes; done <<<"$lines"
-  mapfile -t left < <(longest_first <<<"$lines")
+  mapfile -t left < <(ways <<<"$lines" | sed 's/.* //')
   while IFS=: read -r name below; do stands[$name]=$below; done < <(all_below)
   for ((lane = 0; lane < $1; lane++)); do
     [ "$lane" = 0 ] || make_lane "$lane" || return 1
