@@ -18,7 +18,7 @@
 //! );
 //! ```
 //!
-//! Tests: `engine_tests`, module `whole_runs`.
+//! Tests: `run_tests`.
 //!
 //! Why so: **a seeded check makes its capture twice**, once for the length in its first line (`made_len`), which stands
 //! before anything is counted, and once to be checked. It needs no memory for it.

@@ -21,7 +21,7 @@
 //! let code = status.code(); // 5
 //! ```
 //!
-//! Tests: `engine_tests`, module `whole_runs`.
+//! Tests: `run_tests`.
 //!
 //! Why so:
 //!

@@ -10,7 +10,7 @@
 //! let home = rounds.home(); // options.blocks
 //! ```
 //!
-//! Tests: `engine_tests`, module `whole_runs`.
+//! Tests: `run_tests`.
 #![tactic(auto)]
 
 mod made;

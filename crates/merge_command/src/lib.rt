@@ -19,7 +19,7 @@
 //! );
 //! ```
 //!
-//! Tests: `engine_tests`, module `whole_runs`.
+//! Tests: `run_tests`.
 //!
 //! Why so: **the blocks are made once the file header is lawful**, so a refused capture costs none. The output's file
 //! header is written before that: where memory for the blocks is refused, it is all that was written.

@@ -40,7 +40,7 @@
 //! let code = status.code(); // 0 where all went well
 //! ```
 //!
-//! Tests: `engine_tests`, module `whole_runs`.
+//! Tests: `run_tests`.
 //!
 //! Why so:
 //!

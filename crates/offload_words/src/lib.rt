@@ -21,7 +21,7 @@
 //! `numbers` the options with one number, `words` the top call. `OptionRows`, `OptionNumbers` and `Subcommands` in
 //! `proofs/` hold for any command set whose arguments are options with one value.
 //!
-//! Tests: `engine_tests`, module `whole_runs::options`, and `word_tests`, module `words`.
+//! Tests: `run_tests`, module `options`, and `word_tests`, module `words`.
 //!
 //! Why so:
 //!

@@ -1,7 +1,7 @@
 //! Pools that just suffice, and pools with a block too few.
 
-use crate::whole_runs::lines::{Ended, Want, is_as_wanted, run_line};
-use crate::whole_runs::row_frames::{flows, record_header, segments};
+use crate::lines::{Ended, Want, is_as_wanted, run_line};
+use crate::row_frames::{flows, record_header, segments};
 use offload_run::{Engine, Status};
 use std::alloc::Global;
 use std::process::Abort;

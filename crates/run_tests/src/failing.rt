@@ -5,8 +5,8 @@
 //! format alone.
 
 use crate::byte_lists::hash;
-use crate::whole_runs::lines::{CAPTURE, MERGE, SINGLES, is_as_wanted, is_cut_off, run_line};
-use crate::whole_runs::row_frames::{Frame, NEXT, PLAIN, capture_of, first};
+use crate::lines::{CAPTURE, MERGE, SINGLES, is_as_wanted, is_cut_off, run_line};
+use crate::row_frames::{Frame, NEXT, PLAIN, capture_of, first};
 use offload_run::Status;
 use std::alloc::Global;
 use std::process::Abort;

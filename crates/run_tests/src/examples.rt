@@ -1,6 +1,6 @@
 //! The example of each first page, as it stands there, and what it comes to.
 
-use crate::whole_runs::lines::{CAPTURE, words};
+use crate::lines::{CAPTURE, words};
 use check_command::run_check;
 use command_answers::{Status, finish, write_log};
 use command_rounds::make_rounds;

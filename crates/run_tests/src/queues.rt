@@ -1,9 +1,9 @@
 //! Queues and taps: their records, each call of the outside failing in turn, and tasks that wait for one another.
 
-use crate::whole_runs::failing::{Whole, writes_answered_first};
-use crate::whole_runs::lines::{is_as_wanted, run_gated, run_line};
-use crate::whole_runs::row_frames::{Frame, NEXT, PLAIN, capture_of};
-use crate::whole_runs::rows::{Said, has_lengths, is_said};
+use crate::failing::{Whole, writes_answered_first};
+use crate::lines::{is_as_wanted, run_gated, run_line};
+use crate::row_frames::{Frame, NEXT, PLAIN, capture_of};
+use crate::rows::{Said, has_lengths, is_said};
 use off_io::{Meeting, Who};
 use offload_run::Status;
 use std::alloc::Global;

@@ -1,9 +1,9 @@
 //! Rounds that are read while the ones before are worked.
 
 use crate::byte_lists::joined;
-use crate::whole_runs::lines::{ends_so, run_line, words};
-use crate::whole_runs::queues::in_turn;
-use crate::whole_runs::row_frames::first;
+use crate::lines::{ends_so, run_line, words};
+use crate::queues::in_turn;
+use crate::row_frames::first;
 use off_io::{Failed, Gate, MemSink, MemSource, Source, Who};
 use offload_run::{Status, run};
 use std::alloc::Global;

@@ -2,10 +2,10 @@
 //!
 //! The numbers were worked out by hand; the queues of flows under a hash are those of `contrib/by_definition`.
 
-use crate::whole_runs::lines::run_line;
-use crate::whole_runs::queues::{KEY, in_turn, line_has_lengths, line_says, pair};
-use crate::whole_runs::row_frames::segments;
-use crate::whole_runs::rows::{Said, has_lanes, is_said};
+use crate::lines::run_line;
+use crate::queues::{KEY, in_turn, line_has_lengths, line_says, pair};
+use crate::row_frames::segments;
+use crate::rows::{Said, has_lanes, is_said};
 use std::alloc::Global;
 use std::process::Abort;
 use std::sync::Wait;

@@ -5,13 +5,13 @@
 //! 12 in version 1 and of 16 in version 2.
 
 use crate::byte_lists::{hash, joined};
-use crate::whole_runs::failing::{Whole, packets, writes_answered_first};
-use crate::whole_runs::lines::{
+use crate::failing::{Whole, packets, writes_answered_first};
+use crate::lines::{
     CAPTURE, Refusal, SHORT_HEADER, SHORT_RECORD, SHORT_RECORD_HEADER, SINGLES, Want, ends_so,
     is_as_wanted, refusal, refused, run_line,
 };
-use crate::whole_runs::queues::{TWO_QUEUES, in_turn, written_of};
-use crate::whole_runs::row_frames::{first, record_header};
+use crate::queues::{TWO_QUEUES, in_turn, written_of};
+use crate::row_frames::{first, record_header};
 use offload_run::Status;
 use pcap_io::CapKind;
 use std::alloc::Global;

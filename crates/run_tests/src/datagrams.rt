@@ -1,11 +1,11 @@
-//! Rows of UDP datagrams and of GRE tunnels: the records that `merge` writes of them, as in [`crate::whole_runs::rows`], and what
+//! Rows of UDP datagrams and of GRE tunnels: the records that `merge` writes of them, as in [`crate::rows`], and what
 //! comes back.
 //!
 //! The numbers were worked out by hand, and the hashes are those of `contrib/by_definition`.
 
-use crate::whole_runs::lines::ends_so;
-use crate::whole_runs::row_frames::{Frame, Gre, NEXT, PLAIN, capture_of};
-use crate::whole_runs::rows::{Row, first_other, merged};
+use crate::lines::ends_so;
+use crate::row_frames::{Frame, Gre, NEXT, PLAIN, capture_of};
+use crate::rows::{Row, first_other, merged};
 use offload_run::Status;
 use std::alloc::Global;
 use std::process::Abort;

@@ -4,8 +4,8 @@
 //! The numbers were worked out by hand, and the hashes are those of `contrib/by_definition`.
 
 use crate::byte_lists::{hash, joined};
-use crate::whole_runs::lines::{Ended, run_line};
-use crate::whole_runs::row_frames::{
+use crate::lines::{Ended, run_line};
+use crate::row_frames::{
     Frame, NEXT, PLAIN, PURE_ACK, Sum, capture_of, flows, record_header, segments,
 };
 use offload_run::Status;

@@ -1,9 +1,9 @@
 //! The lines that `check` writes.
 
 use crate::byte_lists::joined;
-use crate::whole_runs::lines::{CAPTURE, run_line};
-use crate::whole_runs::queues::{KEY, in_turn, pair};
-use crate::whole_runs::row_frames::{first, segments};
+use crate::lines::{CAPTURE, run_line};
+use crate::queues::{KEY, in_turn, pair};
+use crate::row_frames::{first, segments};
 use offload_run::Status;
 use pcap_io::{CapFault, CapKind};
 use std::alloc::Global;

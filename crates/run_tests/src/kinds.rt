@@ -1,7 +1,7 @@
 //! An offload capture of several kinds of records, segmented. The bytes come from a program that was written from the
 //! formats alone.
 
-use crate::whole_runs::lines::ends_so;
+use crate::lines::ends_so;
 use offload_run::Status;
 use std::alloc::Global;
 use std::process::Abort;
