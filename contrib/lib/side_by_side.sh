@@ -55,7 +55,7 @@ prove_one() {
 # as a whole besides.
 ways() {
   awk -v product="$crate" '
-    NR == FNR { bytes[$1] = $2; next }
+    NR == FNR { bytes[$1] = $2; asked[$1]; next }
     {
       split($0, words, ":")
       own = words[1]
@@ -73,7 +73,7 @@ ways() {
         many = split(below[own], names, " ")
         for (j = 1; j <= many; j++) if (names[j] != own && way[names[j]] < way[own]) way[names[j]] = way[own]
       }
-      for (own in bytes) print way[own], cost[own], own
+      for (own in asked) print way[own], cost[own], own
     }' - <(all_below) | sort -rn
 }
 
