@@ -1,6 +1,6 @@
 -- Packets that go to their queues.
 use Rattle.std.proofs.Common.{◌⊎◌, inl, inr, Option, append-nil}
-use Rattle.std.proofs.Common.{◌≡◌, ℕ, zero, suc, ◌+◌, ◌<◌, ◌≤◌, Bool, true, false, List, [], ◌∷◌, ◌++◌, map, length, get_or, set, refl, sym, ap, ◌∙◌, subst, append_assoc, length-append, arith}
+use Rattle.std.proofs.Common.{take, ◌≡◌, ℕ, zero, suc, ◌+◌, ◌<◌, ◌≤◌, Bool, true, false, List, [], ◌∷◌, ◌++◌, map, length, get_or, set, refl, sym, ap, ◌∙◌, subst, append_assoc, length-append, arith}
 use Rattle.std.specs.Prelude.{All, cond, reverse}
 use Rattle.std.specs.List.{filter, AllByRecursion}
 use Rattle.std.proofs.lemmas.List.{length-set, reverse-append, reverse-reverse}
@@ -310,6 +310,12 @@ idle_alone ls idle i d lt = subst AreAlone (sym (idle i d lt).packets) tt
 -- its last packet is the first one
 pub popped : (xs ys : List Held) (p : Held) → xs ≡ ys ++ p ∷ [] → reverse xs ≡ p ∷ reverse ys
 popped xs ys p e = ap reverse e ∙ reverse-append ys (p ∷ [])
+
+pub last_of : (n : ℕ) (xs : List Held) (p : Held) → length xs ≡ suc n → p ≡ get_or xs n p → xs ≡ take n xs ++ p ∷ []
+last_of n [] p l e = absurd (omega (arith, l))
+last_of zero (x ∷ []) p l e = ap (λ (z : Held). z ∷ []) (sym e)
+last_of zero (x ∷ y ∷ ys) p l e = absurd (omega (arith, l))
+last_of (suc n) (x ∷ xs) p l e = ap (λ (z : List Held). x ∷ z) (last_of n xs p (omega (arith, l)) e)
 
 pub turned : (xs ys : List Held) → ys ≡ reverse xs → reverse ys ≡ xs
 turned xs ys e = ap reverse e ∙ reverse-reverse xs

@@ -90,11 +90,12 @@
 //! };
 //! ```
 //!
-//! Its parts: `plan` (how many lanes), `lane` (what each has to do, and what it has done), `share` (packets to their
-//! queues, and memory for their runs), `clones` and `fill` (what taps get, where there are any), `keep` (a clone of
-//! each packet beside the work), `working` (one lane's work), `works` (who does it) and `frame_lengths` (by which that
-//! is chosen); `giving` (a list that is lent goes back), `shared` (the filter that taps share), `soles` (why taps have
-//! none) and `free`; and on these `round`.
+//! Its parts: `plan` (how many lanes), `lane` (what each has to do, and what it has done), `flow_queue` (the queue of a
+//! packet's flow, folded where plain headers lie), `share` (packets to their queues, and memory for their runs),
+//! `clones` and `fill` (what taps get, where there are any), `keep` (a clone of each packet beside the work), `working`
+//! (one lane's work), `works` (who does it) and `frame_lengths` (by which that is chosen); `giving` (a list that is
+//! lent goes back), `shared` (the filter that taps share), `soles` (why taps have none) and `free`; and on these
+//! `round`.
 //!
 //! Tests: `engine_tests`, module `rounds_in_turn::working`.
 //!
@@ -126,6 +127,7 @@
 
 mod clones;
 mod fill;
+mod flow_queue;
 mod frame_lengths;
 mod free;
 mod giving;

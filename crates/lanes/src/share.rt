@@ -1,46 +1,36 @@
 //! Spreads the packets of a round over its queues.
-ghost use Rattle.std.specs.Prelude.{◌≡◌, ◌<◌, ◌≤◌, ◌^◌, [], length, All, IfErr, OnOk};
+ghost use Rattle.std.specs.Prelude.{◌≡◌, ◌<◌, ◌≤◌, ◌^◌, ◌++◌, ◌∷◌, [], List, length, All, IfErr, OnOk};
 ghost use Rattle.std.specs.Prelude.{reverse};
-ghost use Rattle.frame_layout.specs.Key.{key_of};
-ghost use Rattle.skb.specs.SkbState.{buffer_bytes};
-ghost use Rattle.gro.specs.Slots.{counts_of, IsHeld};
+ghost use Rattle.gro.specs.declared.slot.Slot.{Slot as Held};
+ghost use Rattle.gro.specs.Slots.{counts_of};
 ghost use Rattle.lanes.specs.Filling.{AreOpen, SharesOut};
 ghost use Rattle.lanes.specs.Lanes.{counts_of_queues, IsIdleQueue};
 ghost use Rattle.lanes.specs.Work.{IsPlan, spread_of};
 ghost use Rattle.lanes.specs.Sharing.{EachStays, HasMemory, StaysAs};
 ghost use Rattle.lanes.specs.Sharing.{TakesAll, TakesIn};
 
+use crate::flow_queue::queue_for;
 use crate::lane::QueueLane;
 use crate::plan::LanePlan;
 use core::mem::swap;
-use frame_layout::{key, queue_by};
-use gro::{Packets, Slot};
+use gro::Packets;
 use std::alloc::AllocError;
 
-// The queue of a packet's flow.
-fn queue_for(packet: &Slot, plan: &LanePlan) -> u32
-    requires held { IsHeld packet.now }
-    requires plan { IsPlan plan.now }
-    ensures queue { result ≡ spread_of plan.now (key_of (buffer_bytes packet.now.skb)) }
-    ensures below { result < plan.now.queues }
+// The last packet comes behind those of a lane. Where memory is refused it stays.
+fn take_last(lane: &mut QueueLane, packets: &mut Packets) -> Result<(), AllocError>
+    ensures taken { OnOk result ((rest : List Held) (p : Held) → packets.old.items ≡ rest ++ (p ∷ [])
+        → TakesIn lane.old p lane.new × (packets.new.items ≡ rest)) }
+    ensures back { IfErr result (λ _. StaysAs lane.old lane.new × (packets.new.items ≡ packets.old.items)) }
 {
-    queue_by(&key(packet.skb.head()), &plan.choice, plan.queues)
-}
-
-// A packet comes behind those of its lane. Where memory is refused it comes back.
-fn take_in(lane: &mut QueueLane, packet: Slot) -> Result<(), (Slot, AllocError)>
-    ensures taken { OnOk result (TakesIn lane.old packet lane.new) }
-    ensures back { IfErr result (λ e. (e.0 ≡ packet) × StaysAs lane.old lane.new) }
-{
-    if let Err(error) = lane.packets.reserve(1) {
-        return Err((packet, error));
+    lane.packets.reserve(1)?;
+    if let Some(packet) = packets.pop() {
+        lane.packets.push(packet);
     }
-    lane.packets.push(packet);
     Ok(())
 }
 
-// Each packet goes to the queue of its flow, the last one of the list first. One that there is no memory for is the
-// list's last again.
+// Each packet goes to the queue of its flow, the last one of the list first. One that there is no memory for stays the
+// list's last.
 fn spread_back(
     packets: &mut Packets,
     plan: &LanePlan,
@@ -51,12 +41,9 @@ fn spread_back(
         lanes.new }
     ensures all { OnOk result (packets.new.items ≡ []) }
 {
-    while let Some(packet) = packets.pop() {
-        let queue = queue_for(&packet, plan) as usize;
-        if let Err((packet, error)) = take_in(&mut lanes[queue], packet) {
-            packets.push(packet);
-            return Err(error);
-        }
+    while let Some(last) = packets.slots().last() {
+        let queue = queue_for(last, plan) as usize;
+        take_last(&mut lanes[queue], packets)?;
     }
     Ok(())
 }
