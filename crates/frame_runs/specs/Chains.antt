@@ -1,5 +1,6 @@
 -- Chains of indices: the packets of a run, by the index of the first one and, for each, that of the next.
-use Rattle.std.specs.Prelude.{ℕ, zero, suc, ◌≡◌, ◌+◌, ◌<◌, ◌≤◌, ◌==◌, if◌then◌else◌, List, [], ◌∷◌, length, map, slice_index_or}
+use Rattle.std.specs.Prelude.{ℕ, zero, suc, ◌≡◌, ◌+◌, ◌<◌, ◌≤◌, ◌==◌, if◌then◌else◌}
+use Rattle.std.specs.Prelude.{List, [], ◌∷◌, length, map, slice_index_or}
 use Rattle.pcap_io.specs.Capture.{Packet}
 use Rattle.frame_runs.specs.declared.run.Run.{Run}
 

@@ -1,5 +1,6 @@
 -- Merging over a list of packets, by index.
-use Rattle.std.specs.Prelude.{ℕ, ◌≡◌, ◌+◌, ◌<◌, ◌≤◌, Option, None, List, [], ◌∷◌, ◌++◌, length, map, take, Bool, false}
+use Rattle.std.specs.Prelude.{ℕ, ◌≡◌, ◌+◌, ◌<◌, ◌≤◌, Option, None, Bool, false}
+use Rattle.std.specs.Prelude.{List, [], ◌∷◌, ◌++◌, length, map, take}
 use Rattle.std.specs.Prelude.{set, slice_index_or, vec_len, vec_capacity}
 use Rattle.std.specs.List.{AllByRecursion}
 use Rattle.maximal_runs.specs.Cut.{AllNeighbours}
@@ -61,7 +62,8 @@ pub record Grows (ps : List Packet) (i place : ℕ) (is_open : Bool) (a b : Engi
   pub each : AllByRecursion (IsChain ps b.next.items) b.runs.items
   pub shared : AreSharedOut (i + 1) (chains_of b)
   pub linked : length b.next.items ≡ length a.next.items
-  pub runs : runs_of ps b ≡ set (runs_of ps a) place (slice_index_or (runs_of ps a) place [] ++ (packet_at ps i ∷ []))
+  pub runs : runs_of ps b
+      ≡ set (runs_of ps a) place (slice_index_or (runs_of ps a) place [] ++ (packet_at ps i ∷ []))
   pub shut : is_open ≡ false → IsShut (slice_index_or (runs_of ps a) place [] ++ (packet_at ps i ∷ []))
   pub flows : b.flows ≡ a.flows
   pub room : (vec_len b.runs ≡ vec_len a.runs) × (vec_capacity b.runs ≡ vec_capacity a.runs)

@@ -1,5 +1,6 @@
 -- Flows: the open group of each.
-use Rattle.std.specs.Prelude.{ℕ, ◌≡◌, ◌≢◌, ◌+◌, ◌-◌, ◌*◌, ◌/◌, ◌%◌, ◌^◌, ◌<◌, ◌≤◌, ◌⊎◌, nat_lt, Option, Some, None}
+use Rattle.std.specs.Prelude.{ℕ, ◌≡◌, ◌≢◌, ◌+◌, ◌-◌, ◌*◌, ◌/◌, ◌%◌, ◌^◌}
+use Rattle.std.specs.Prelude.{◌<◌, ◌≤◌, ◌⊎◌, nat_lt, Option, Some, None}
 use Rattle.std.specs.Prelude.{List, [], ◌∷◌, length, slice_index_or, if◌then◌else◌}
 use Rattle.std.specs.Map.{lookup}
 use Rattle.net_bytes.specs.Bytes.{be32}
@@ -75,7 +76,8 @@ pub record AreFlows (ps : List Packet) (f : Flows) : Type 0 where
 
 -- the flow with this key has this, and each other flow keeps its own
 abbrev pub Puts : List Packet → Flows → Option (List ℕ) → Option ℕ → Flows → Type 0
-Puts ps f key place g = (q : Option (List ℕ)) → place_of ps g q ≡ (if key_eq key q then place else place_of ps f q)
+Puts ps f key place g = (q : Option (List ℕ))
+    → place_of ps g q ≡ (if key_eq key q then place else place_of ps f q)
 
 -- a group of this packet of the list, and of the hash of its flow's key
 abbrev pub IsGroup : List Packet → Group → Packet → Type 0

@@ -41,7 +41,8 @@ pub(crate) fn judge_as<F: Frame>(layout: &Layout, slot: &F) -> Option<Addition>
 
 /// Whether the IPv4 header of a frame of `len` bytes tells another length. Nothing is said of a head that ends before.
 fn is_other_length(head: &[u8], len: usize) -> bool
-    ensures other { IsTrue result → (f : List ℕ) → IsHeadOf head.now f → length f ≡ len → IsLengthRight f Ip4 14 → ⊥ }
+    ensures other { IsTrue result → (f : List ℕ) → IsHeadOf head.now f → length f ≡ len
+        → IsLengthRight f Ip4 14 → ⊥ }
 {
     head.len() >= 34 && usize::from(ip4::total_length(head, 14)) != len.saturating_sub(14)
 }

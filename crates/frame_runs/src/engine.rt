@@ -1,5 +1,6 @@
 //! Merging over a list of packets, by index.
-ghost use Rattle.std.specs.Prelude.{◌≡◌, ◌+◌, ◌<◌, ◌^◌, ◌++◌, ◌∷◌, [], Option, Some, None, ℕ, List, true, length};
+ghost use Rattle.std.specs.Prelude.{◌≡◌, ◌+◌, ◌<◌, ◌^◌, ◌++◌, ◌∷◌, [], Option, Some, None};
+ghost use Rattle.std.specs.Prelude.{ℕ, List, true, length};
 ghost use Rattle.std.specs.Prelude.{IsTrue, map, OnOk, IfOk, IfSome, slice_index_or, if◌then◌else◌};
 ghost use Rattle.std.specs.List.{AllByRecursion};
 ghost use Rattle.std.specs.Bool.{Decides};
@@ -338,7 +339,8 @@ impl Engine {
     /// Whether a packet can neither be merged nor end a run, whatever its flow is.
     fn is_apart(&self, candidacy: &Candidacy) -> bool
         ensures layout { IsTrue result → candidacy.now.layout ≡ None }
-        ensures none { IsTrue result → (ps : List Packet) (q : Option (List ℕ)) → place_of ps self.now.flows q ≡ None }
+        ensures none { IsTrue result → (ps : List Packet) (q : Option (List ℕ))
+            → place_of ps self.now.flows q ≡ None }
     {
         candidacy.layout.is_none() && self.flows.is_empty()
     }

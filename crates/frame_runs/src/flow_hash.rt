@@ -66,7 +66,8 @@ fn plain_hash(head: &[u8]) -> u32
 /// The hash of the key of a frame of this layout.
 fn layout_hash(head: &[u8], layout: &Layout) -> u32
     requires shape { (f : List ℕ) × (IsHeadOf head.now f × (shape_of f ≡ Some layout.now)) }
-    ensures hash { (f : List ℕ) → IsHeadOf head.now f → shape_of f ≡ Some layout.now → result ≡ hash_of (key_of f) }
+    ensures hash { (f : List ℕ) → IsHeadOf head.now f → shape_of f ≡ Some layout.now
+        → result ≡ hash_of (key_of f) }
 {
     if layout.is_plain() {
         return plain_hash(head);

@@ -1,6 +1,6 @@
 //! The open group of each flow.
-ghost use Rattle.std.specs.Prelude.{◌≡◌, ◌+◌, ◌<◌, ◌≤◌, Option, Some, None, List, ℕ, map, IfOk, OnOk, IfSome, IfNone, true};
-ghost use Rattle.std.specs.Prelude.{if◌then◌else◌};
+ghost use Rattle.std.specs.Prelude.{◌≡◌, ◌+◌, ◌<◌, ◌≤◌, Option, Some, None, List, ℕ, map, true};
+ghost use Rattle.std.specs.Prelude.{IfOk, OnOk, IfSome, IfNone, if◌then◌else◌};
 ghost use Rattle.std.specs.Bool.{Decides};
 ghost use Rattle.std.specs.HashMap.{IsEmpty, Updates as UpdatesKey, spare};
 ghost use Rattle.std.specs.List.{AllByRecursion};
@@ -136,7 +136,8 @@ impl Flows {
     /// Room for n groups more.
     pub(crate) fn reserve(&mut self, n: usize) -> Result<(), AllocError>
         ensures flows { (ps : List Packet) → AreFlows ps self.old → AreFlows ps self.new }
-        ensures same { (ps : List Packet) (q : Option (List ℕ)) → place_of ps self.new q ≡ place_of ps self.old q }
+        ensures same { (ps : List Packet) (q : Option (List ℕ))
+            → place_of ps self.new q ≡ place_of ps self.old q }
         ensures room { OnOk result (HasRoom self.new n) }
         ensures later { (k : ℕ) → HasRoom self.old k → HasRoom self.new k }
     {
@@ -161,7 +162,8 @@ impl Flows {
 
     /// Whether no flow has an open group.
     pub(crate) fn is_empty(&self) -> bool
-        ensures none { result ≡ true → (ps : List Packet) (q : Option (List ℕ)) → place_of ps self.now q ≡ None }
+        ensures none { result ≡ true → (ps : List Packet) (q : Option (List ℕ))
+            → place_of ps self.now q ≡ None }
     {
         self.groups.is_empty()
     }
@@ -352,7 +354,8 @@ impl Flows {
             → place_of ps self.old (key_of (F.packet slot.now).frame) ≡ None → AreFlows ps self.new }
         ensures puts { (ps : List Packet) → AreFlows ps self.old → IsGroup ps group (F.packet slot.now)
             → place_of ps self.old (key_of (F.packet slot.now).frame) ≡ None
-            → Puts ps self.old (key_of (F.packet slot.now).frame) (if is_open then Some group.run else None) self.new }
+            → Puts ps self.old (key_of (F.packet slot.now).frame) (if is_open then Some group.run else None)
+            self.new }
         ensures room { (n : ℕ) → HasRoom self.old (n + 1) → HasRoom self.new n }
     {
         if is_open {
@@ -369,7 +372,8 @@ impl Flows {
             → IsOwn ps self.old (key_of (F.packet slot.now).frame) found → AreFlows ps self.new }
         ensures puts { (ps : List Packet) → AreFlows ps self.old → IsGroup ps group (F.packet slot.now)
             → IsOwn ps self.old (key_of (F.packet slot.now).frame) found
-            → Puts ps self.old (key_of (F.packet slot.now).frame) (if is_open then Some group.run else None) self.new }
+            → Puts ps self.old (key_of (F.packet slot.now).frame) (if is_open then Some group.run else None)
+            self.new }
         ensures room { (n : ℕ) → HasRoom self.old (n + 1) → HasRoom self.new n }
     {
         self.close(slot, group.hash, found);
