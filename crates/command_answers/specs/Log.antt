@@ -1,6 +1,7 @@
 -- The line that the log gets of a status.
 use Rattle.std.specs.Prelude.{ℕ, List, [], codes}
-use Rattle.status_log.specs.Lines.{malformed_line, no_memory_line, pool_empty_line, read_fault_line, usage_line, write_fault_line}
+use Rattle.status_log.specs.Lines.{malformed_line, no_memory_line, pool_empty_line, read_fault_line, usage_line}
+use Rattle.status_log.specs.Lines.{write_fault_line}
 use Rattle.pcap_io.specs.declared.faults.CapKind.{CapKind}
 use Rattle.pcap_io.specs.declared.faults.CapKind.TheVariants as kinds
 use Rattle.command_answers.specs.declared.status.Status.{Status}

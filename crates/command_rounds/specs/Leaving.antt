@@ -1,5 +1,5 @@
--- What a command that merges leaves: its rounds, all blocks home, and at least as many taken as the bytes that were given
--- need, or the count stands at its last value.
+-- What a command that merges leaves: its rounds, all blocks home, and at least as many taken as the bytes that were
+-- given need, or the count stands at its last value.
 use Rattle.std.specs.Prelude.{◌≡◌, ℕ, ◌-◌, ◌^◌, ◌≤◌, List, min, Option, None, Some, ⊤}
 use Rattle.off_io.specs.Told.{Told}
 use Rattle.rounds.specs.RoundsState.{RoundsState}
@@ -20,8 +20,8 @@ IsMergeHome blocks None = ⊤
 IsMergeHome blocks (Some rounds) = (rounds.blocks ≡ blocks) × (rounds.home ≡ blocks)
 
 -- a command that merges over n blocks ended so, and left this: `need` is that of what the source gave
-pub record LeavesMerge (n : ℕ) (need : List ℕ → ℕ) (status : Status) (left : Option RoundsState) (old new : Option (List ℕ))
-    : Type 0 where
+pub record LeavesMerge (n : ℕ) (need : List ℕ → ℕ) (status : Status) (left : Option RoundsState)
+    (old new : Option (List ℕ)) : Type 0 where
   pub blocks : HasBlocks n status
   pub engine : status ≡ Ok → HasMerged n need left old new
   pub home : IsMergeHome n left

@@ -44,7 +44,8 @@ pub record CanServe (lanes : List TapLane) (packets : List Held) : Type 0 where
   pub weigh : WeighAtLeast (weight_after 1) packets
 
 -- each tap has a clone of each packet, or for want of memory those that were made
-pub record Serves {T E : Type 0} (old new : List Held) (before after : List TapLane) (result : Result T E) : Type 0 where
+pub record Serves {T E : Type 0} (old new : List Held) (before after : List TapLane) (result : Result T E)
+    : Type 0 where
   pub kept : Keeps (of_packets old) (both (of_packets new) (of_taps after))
   pub blocks : KeepsBlocks (of_packets old) (both (of_packets new) (of_taps after))
   pub ready : All IsTapReady after

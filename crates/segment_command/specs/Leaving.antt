@@ -1,5 +1,5 @@
--- What `segment` leaves: its pool, all blocks home, and at least as many taken as the bytes that were given need, or the
--- count stands at its last value.
+-- What `segment` leaves: its pool, all blocks home, and at least as many taken as the bytes that were given need, or
+-- the count stands at its last value.
 use Rattle.std.specs.Prelude.{◌≡◌, ℕ, ◌-◌, ◌^◌, ◌≤◌, List, length, map, min, Option, None, Some, ⊤}
 use Rattle.off_io.specs.Told.{Told}
 use Rattle.pcap_io.specs.Capture.{Packet}
