@@ -1,8 +1,8 @@
 //! The example of each first page, as it stands there, and what it comes to.
 use crate::pieces::blocks::counted;
-use block_pool::{Bell, Pool};
+use block_pool::Pool;
 use block_supply::open_lists;
-use crossing::{SHELVES, receive, send_home};
+use crossing::{IN_RING, has_come, send};
 use errands::Errands;
 use frags::{Outcomes, Pieces};
 use raw_block::{Released, Sole};
@@ -74,12 +74,11 @@ fn example_of_block_supply(rt: HostRuntime) -> Result<(), Fail> {
 #[test]
 fn example_of_crossing(rt: HostRuntime) -> Result<(), Fail> {
     let alloc = rt.alloc();
-    let bell = Bell::new();
-    let shelf = Pool::make(alloc, 2)?;
-    let (mut told, mut tokens) = RingBuffer::new(alloc, SHELVES + 1)?;
-    send_home(&rt, shelf, true, &mut told, &bell);
-    let token = receive(&rt, &mut tokens, &bell);
-    assert_eq!(rt; (token.shelf.home(), token.goes), (2, true));
+    let (mut out, mut from) = RingBuffer::new(alloc, IN_RING)?;
+    send(&rt, &mut out, 7);
+    let came = has_come(&mut from);
+    let next = from.pop();
+    assert_eq!(rt; (came, next.ok()), (true, Some(7)));
     Ok(())
 }
 

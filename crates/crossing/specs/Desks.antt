@@ -1,22 +1,17 @@
 -- What came home to the desk of the side that reads.
-use Rattle.std.specs.Prelude.{ℕ, ◌≡◌, ◌+◌, ◌-◌, ◌≤◌}
+use Rattle.std.specs.Prelude.{ℕ, ◌≡◌, ◌+◌, ◌≤◌}
 use Rattle.block_pool.specs.PoolState.{PoolState, home, weighed}
-use Rattle.rtrb.specs.Ring.{received}
 use Rattle.crossing.specs.declared.desk.Desk.{Desk}
 use Rattle.crossing.specs.declared.post.Post.{Ghosts}
 use Rattle.block_supply.specs.Lists.{listed_home, weights_home}
-use Rattle.crossing.specs.Tokens.{homes_of, shelved, weights_back, weights_shelved}
 
--- blocks from shelves, and of lists
+-- blocks of lists
 abbrev pub brought_to : {W : Type 0} {G : Ghosts W} → Desk W G → ℕ
-brought_to desk =
-    (homes_of (received desk.tokens) - shelved desk.shelves.items) + listed_home desk.taker.pass desk.taker.left
+brought_to desk = listed_home desk.taker.pass desk.taker.left
 
 -- what these weigh together, each by its name
 abbrev pub weights_to : {W : Type 0} {G : Ghosts W} → Desk W G → (ℕ → ℕ) → ℕ
-weights_to desk h =
-    (weights_back h (received desk.tokens) - weights_shelved h desk.shelves.items)
-    + weights_home h desk.taker.pass desk.taker.left
+weights_to desk h = weights_home h desk.taker.pass desk.taker.left
 
 -- it went on to this pool, of which nothing was taken; no take that found no list is forgotten
 pub record Meets {W : Type 0} {G : Ghosts W} (pool pool' : PoolState) (desk desk' : Desk W G) : Type 0 where

@@ -1,4 +1,4 @@
-//! How the two sides wake each other, and how they know that there are two.
+//! How the two sides wake each other, how they know that there are two, and that the one that works has ended.
 use block_pool::Bell;
 use std::sync::Arc;
 use std::sync::atomic::{AtomicBool, Ordering};
@@ -7,12 +7,15 @@ use std::thread;
 /// Each side sleeps by its own. Whoever gives blocks back while a round is worked has that of the reader too.
 #[derive(Drop)]
 pub struct Bells {
-    /// Of the side that reads: each token rings it, and a list where that side has said that it waits.
+    /// Of the side that reads: each round that is received rings it, and a list where that side has said that it waits.
     pub reader: Arc<Bell>,
-    /// Of the side that works: each round that is sent rings it.
+    /// Of the side that works: each round that is sent rings it, and a reader that begins to wait for blocks.
     pub worker: Bell,
     // Whoever sets it first decides: the side that reads, that it begins; the other one, that it won't.
     begun: AtomicBool,
+    // Set by the side that works once it takes no more rounds, and never taken back. No list says it: where the put of
+    // one is refused it wouldn't arrive, and the reader would wait for ever; and a round may leave no block for one.
+    ended: AtomicBool,
 }
 
 /// The times that the worker yields to a reader that hasn't begun: a third of a second, beyond any delay of a thread
@@ -25,6 +28,7 @@ impl Bells {
             reader,
             worker: Bell::new(),
             begun: AtomicBool::new(false),
+            ended: AtomicBool::new(false),
         }
     }
 
@@ -42,5 +46,16 @@ impl Bells {
             thread::yield_now();
         }
         self.begun.swap(true, Ordering::SeqCst)
+    }
+
+    /// No more rounds are taken, and no more blocks given.
+    pub fn end(&self) {
+        self.ended.store(true, Ordering::SeqCst);
+        self.reader.wake();
+    }
+
+    /// Whether the side that works has ended. What it gave before is in the pool of lists then.
+    pub fn has_ended(&self) -> bool {
+        self.ended.load(Ordering::SeqCst)
     }
 }

@@ -1,35 +1,26 @@
-//! Where the side that reads waits for blocks.
-ghost use Rattle.std.specs.Prelude.{◌≡◌, ℕ, ◌+◌, ◌-◌, ◌<◌, ◌≤◌, ◌^◌, [], ◌∷◌, ◌++◌, min, true, false};
+//! Where the side that reads waits for blocks, and for a place to send a round.
+ghost use Rattle.std.specs.Prelude.{◌≡◌, ℕ, ◌+◌, ◌-◌, ◌<◌, ◌≤◌, ◌^◌, min, true, false};
 ghost use Rattle.std.specs.Arc.{arc_value};
 ghost use Rattle.block_pool.specs.PassState.{SharedState};
 ghost use Rattle.block_pool.specs.PoolState.{home, weighed};
-ghost use Rattle.rtrb.specs.Ring.{received, SameConsumer};
 ghost use Rattle.block_supply.specs.Lists.{listed_home, weights_home};
-ghost use Rattle.crossing.specs.Tokens.{RingName};
 
 use crate::bells::Bells;
-use crate::ring::receive;
-use crate::token::{Naming, Token};
+use crate::naming::Naming;
 use block_pool::Pool;
 use block_supply::Taker;
-use rtrb::Consumer;
 use std::marker::PhantomData;
 use std::sync::Wait;
 
-/// Who waits for lists and tokens: of which pool and ring, and on shelves for how many blocks.
+/// Who waits for lists, and of which pool.
 pub trait Post {
-    ghost blocks: { ℕ };
-
-    ghost ring: { RingName };
-
     ghost lists: { SharedState };
 
     /// Whether the side that reads may begin.
     fn begin(&self) -> bool;
 
-    fn next(&self, tokens: &mut Consumer<Token>) -> Token
-        ensures ring { SameConsumer tokens.old tokens.new }
-        ensures token { received tokens.new ≡ received tokens.old ++ result ∷ [] };
+    /// Whether the other side takes no more rounds.
+    fn has_ended(&self) -> bool;
 
     /// Whether a list has come: its blocks are home then, as far as there are places. Where blocks are out it says no
     /// only behind a take that found none.
@@ -70,7 +61,7 @@ pub struct Sleeper<'a, R, N: Naming> {
     rt: &'a R,
     /// It sleeps by the reader's, and rings the worker's.
     bells: &'a Bells,
-    /// Whose ring and pool it is, for contracts alone.
+    /// Whose pool it is, for contracts alone.
     of: PhantomData<N>,
 }
 
@@ -85,18 +76,14 @@ impl<'a, R, N: Naming> Sleeper<'a, R, N> {
 }
 
 impl<R: Wait, N: Naming> Post for Sleeper<'_, R, N> {
-    ghost blocks = { N.blocks };
-
-    ghost ring = { N.ring };
-
     ghost lists = { N.lists };
 
     fn begin(&self) -> bool {
         self.bells.begin()
     }
 
-    fn next(&self, tokens: &mut Consumer<Token>) -> Token {
-        receive(self.rt, tokens, &self.bells.reader)
+    fn has_ended(&self) -> bool {
+        self.bells.has_ended()
     }
 
     fn bring_list(&self, taker: &mut Taker, pool: &mut Pool) -> bool {

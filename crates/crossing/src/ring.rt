@@ -1,8 +1,7 @@
 //! Waiting at the ends of a ring.
-ghost use Rattle.std.specs.Prelude.{◌≡◌, [], ◌∷◌, ◌++◌, MatchOption};
-ghost use Rattle.rtrb.specs.Ring.{sent, received, SameProducer, SameConsumer};
+ghost use Rattle.std.specs.Prelude.{◌≡◌, ◌<◌, [], ◌∷◌, ◌++◌, length, true};
+ghost use Rattle.rtrb.specs.Ring.{sent, known_items, ConsumerLooked, SameProducer};
 
-use block_pool::Bell;
 use rtrb::{Consumer, Producer, Protocol, PushError};
 use std::alloc::Global;
 use std::sync::Wait;
@@ -28,36 +27,30 @@ pub fn send<T, P: Protocol<T>, R: Wait>(rt: &R, ring: &mut Producer<T, Global, P
     unreachable!()
 }
 
-/// The next item, if it comes within so many tries.
-pub fn receive_within<T, P: Protocol<T>>(ring: &mut Consumer<T, Global, P>, tries: u32) -> Option<T>
-    ensures ring { SameConsumer ring.old ring.new }
-    ensures item { MatchOption result (received ring.new ≡ received ring.old)
-        (λ x. (received ring.new ≡ received ring.old ++ x ∷ []) × P.allows (received ring.old) x) }
+/// Whether the ring has a place for an item, or gets one while a thread may try.
+pub fn has_place<T, P: Protocol<T>>(ring: &mut Producer<T, Global, P>) -> bool
+    ensures ring { SameProducer ring.old ring.new }
+    ensures sent { sent ring.new ≡ sent ring.old }
 {
-    for _ in 0..tries {
-        if let Ok(item) = ring.pop() {
-            return Some(item);
+    for _ in 0..TRIES {
+        if !ring.is_full() {
+            return true;
         }
         hint::spin_loop();
     }
-    None
+    false
 }
 
-/// The next item. Between its tries the thread sleeps until the other side wakes it.
-pub fn receive<T, P: Protocol<T>, R: Wait>(
-    rt: &R,
-    ring: &mut Consumer<T, Global, P>,
-    mine: &Bell,
-) -> T
-    ensures ring { SameConsumer ring.old ring.new }
-    ensures item { received ring.new ≡ received ring.old ++ result ∷ [] }
-    ensures allowed { P.allows (received ring.old) result }
+/// Whether the ring has an item, or gets one while a thread may try.
+pub fn has_come<T, P: Protocol<T>>(ring: &mut Consumer<T, Global, P>) -> bool
+    ensures looked { ConsumerLooked ring.old ring.new }
+    ensures came { result ≡ true → 0 < length (known_items ring.new) }
 {
-    for _ in rt.forever() {
-        if let Some(item) = receive_within(ring, TRIES) {
-            return item;
+    for _ in 0..TRIES {
+        if !ring.is_empty() {
+            return true;
         }
-        mine.sleep(rt);
+        hint::spin_loop();
     }
-    unreachable!()
+    false
 }

@@ -5,25 +5,23 @@ use Rattle.rounds.specs.Benches.{HasRoom, MayBring}
 use Rattle.rounds.specs.Handled.{FewPauses}
 use Rattle.rounds.specs.RoundsState.{BenchState}
 
--- One side read on from `here` and is at `home`; it sent `sent`, of which `first` were out as it began, and its desk was brought blocks by
--- tokens and of lists, none of which was there before. The other one told `told`, kept `kept` and gave `given` of what it got. Of what it
--- didn't get `left` stay, and `out` come back.
-pub all_counted : {sent told waiting tokens taken tokens' shelves' taken' rest' none shelved' rested' taken'' : ℕ} (home here first kept given got left out stay shelves rest : ℕ)
-    → home + sent + ((tokens - shelves) + (taken - rest)) ≡ here + first + ((tokens' - shelves') + (taken' - rest')) → told + kept + given ≡ got + none → shelves' ≤ tokens' → rest' ≤ taken'
-    → tokens ≡ 0 → taken ≡ 0 → none ≡ 0 → got + waiting ≡ sent → left + out ≡ waiting → tokens' + stay ≡ told → shelved' ≡ shelves' → rested' ≡ rest' → taken'' ≡ taken'
-    → home + stay + kept + shelved' + rested' + given + left + out ≡ here + first + taken''
-all_counted home here first kept given got left out stay shelves rest a b c d e f g h i j k l m = omega arith
+-- One side read on from `here` and is at `home`; it sent `sent`, of which `first` were out as it began, and its desk was brought blocks of
+-- lists, none of which was there before. The other one has `list` left and gave `given` of what it got. Of what it didn't get `left` stay, and
+-- `out` come back.
+pub all_counted : {sent waiting taken taken' rest' none rested' taken'' : ℕ} (home here first list given got left out rest : ℕ)
+    → home + sent + (taken - rest) ≡ here + first + (taken' - rest') → list + given ≡ got + none → rest' ≤ taken' → taken ≡ 0 → none ≡ 0 → got + waiting ≡ sent → left + out ≡ waiting
+    → rested' ≡ rest' → taken'' ≡ taken' → home + list + rested' + given + left + out ≡ here + first + taken''
+all_counted home here first list given got left out rest a b c d e f g h i = omega arith
 
 -- what is out and what is at home are all
 pub all_out : {here first home round read blocks : ℕ} → here ≡ home → first ≡ round + 0 → round ≡ read → home + read ≡ blocks → here + first ≡ blocks
 all_out a b c d = omega arith
 
 -- What they weigh is counted alike; a sum more has them home, but for what stays.
-pub all_weighed : {here sent first told waiting tokens taken tokens' shelves' taken' rest' none shelved' rested' taken'' new round read was : ℕ} (home kept given got left out stay shelves rest mid : ℕ)
-    → home + sent + ((tokens - shelves) + (taken - rest)) ≡ here + first + ((tokens' - shelves') + (taken' - rest')) → told + kept + given ≡ got + none → shelves' ≤ tokens' → rest' ≤ taken'
-    → tokens ≡ 0 → taken ≡ 0 → none ≡ 0 → got + waiting ≡ sent → left + out ≡ waiting → tokens' + stay ≡ told → shelved' ≡ shelves' → rested' ≡ rest' → taken'' ≡ taken'
-    → mid + taken'' ≡ home + stay + kept + shelved' + rested' + given → new ≡ mid + left → here ≡ was → first ≡ round + 0 → round ≡ read → new + out ≡ was + read
-all_weighed home kept given got left out stay shelves rest mid a b c d e f g h i j k l m n o p q r = omega arith
+pub all_weighed : {here sent first waiting taken taken' rest' none rested' taken'' new round read was : ℕ} (home list given got left out rest mid : ℕ)
+    → home + sent + (taken - rest) ≡ here + first + (taken' - rest') → list + given ≡ got + none → rest' ≤ taken' → taken ≡ 0 → none ≡ 0 → got + waiting ≡ sent → left + out ≡ waiting
+    → rested' ≡ rest' → taken'' ≡ taken' → mid + taken'' ≡ home + list + rested' + given → new ≡ mid + left → here ≡ was → first ≡ round + 0 → round ≡ read → new + out ≡ was + read
+all_weighed home list given got left out rest mid a b c d e f g h i j k l m n = omega arith
 
 -- there is room for what comes home, and for what is left in the ring; with what comes back these are all
 pub room_home : {sum blocks new : ℕ} (left out taken : ℕ) → sum + left + out ≡ blocks + taken → new ≡ blocks → sum ≤ new + taken
@@ -61,22 +59,14 @@ room_back b i room kept home old e r l = omega arith
 
 -- ---- the side that reads
 
--- a desk where nothing of what it was brought has changed
-pub same_brought : {t t' s s' l l' : ℕ} → t' ≡ t → s' ≡ s → l' ≡ l → (t' - s') + l' ≡ (t - s) + l
-same_brought a b c = omega arith
-
 -- a round more was read and sent: what is home, what was sent and what the desk was brought, against the same at first
-pub read_more : {sent' bk bb bd br : ℕ} (home sent brought here first now mid rest n : ℕ) → home + sent + brought ≡ here + first + now → mid + now ≡ home + bb → bk ≡ bb → rest + n + bk ≡ mid + br → bd ≡ br
-    → sent' ≡ sent + (n + 0) → rest + sent' + brought ≡ here + first + bd
-read_more home sent brought here first now mid rest n a b c d e f = omega arith
+pub read_more : {sent' bd br bl : ℕ} (home sent brought here first now mid rest n bb : ℕ) → home + sent + brought ≡ here + first + now → bd ≡ now → mid + bd ≡ home + bb → rest + n + bb ≡ mid + br
+    → bl ≡ br → sent' ≡ sent + (n + 0) → rest + sent' + brought ≡ here + first + bl
+read_more home sent brought here first now mid rest n bb a b c d e f = omega arith
 
 -- or none
-pub read_none : {sent' bk bb : ℕ} (home sent brought here first now mid : ℕ) → home + sent + brought ≡ here + first + now → mid + now ≡ home + bb → bk ≡ bb → sent' ≡ sent + 0
-    → mid + sent' + brought ≡ here + first + bk
-read_none home sent brought here first now mid a b c d = omega arith
-
-pub read_stopped : (home sent brought here first now mid bb : ℕ) → home + sent + brought ≡ here + first + now → mid + now ≡ home + bb → mid + sent + brought ≡ here + first + bb
-read_stopped home sent brought here first now mid bb a b = omega arith
+pub read_stopped : {bd : ℕ} (home sent brought here first now mid bb : ℕ) → home + sent + brought ≡ here + first + now → bd ≡ now → mid + bd ≡ home + bb → mid + sent + brought ≡ here + first + bb
+read_stopped home sent brought here first now mid bb a b c = omega arith
 
 -- how many packets were read, against the place up to which they were
 pub packets_more : {p' n' : ℕ} (p len n budget : ℕ) → p ≤ n → p' ≡ p + (len + 0) → n' ≡ n + budget → len ≡ budget → p' ≤ n'
@@ -87,35 +77,24 @@ number_more k n budget a b c = omega arith
 
 -- ---- the side that works
 
--- a round came that fits the blocks
-pub may_bring : (n read blocks : ℕ) (bench : BenchState) (shelf : PoolState) → n ≡ read → read ≤ blocks → bench.blocks ≡ blocks → home shelf ≡ 0 → shelf.made ≡ blocks → HasRoom 0 bench → MayBring n bench shelf
-may_bring n read blocks bench shelf a b c d e f = record { out = omega arith; few = omega arith; room = omega arith }
-
--- none came
-pub came_none : {now more kept : ℕ} (told given got none : ℕ) → told + given ≡ got + none → kept ≡ 0 → now ≡ got + more → more ≡ 0 → told + kept + given ≡ now + none
-came_none told given got none a b c d = omega arith
+-- a round came that fits the blocks, and has places
+pub may_bring : {n : ℕ} (read blocks : ℕ) (bench : BenchState) (list : PoolState) → n ≡ read → read ≤ blocks → bench.blocks ≡ blocks → home list + read ≤ list.made → HasRoom 0 bench
+    → MayBring n bench list
+may_bring read blocks bench list a b c d e = record { out = omega arith; few = omega arith; room = omega arith }
 
 -- a round came and was handled
-pub came_more : {shelf empty n read now : ℕ} (told given got none here given' : ℕ) → told + given ≡ got + none → shelf ≡ empty → empty ≡ 0 → here + given' ≡ shelf + n + given → n ≡ read → now ≡ got + (read + 0)
-    → told + here + given' ≡ now + none
-came_more told given got none here given' a b c d e f = omega arith
+pub came_more : {n read now : ℕ} (list given got none list' given' here last : ℕ) → list + given ≡ got + none → list' + given' ≡ list + given → here + last ≡ list' + n + given' → n ≡ read → now ≡ got + (read + 0)
+    → here + last ≡ now + none
+came_more list given got none list' given' here last a b c d e = omega arith
 
--- what is left of it is kept, and what was kept before goes home, which is nothing
-pub kept_last : {told' kept shelf last here : ℕ} (told given got none : ℕ) → told + here + given ≡ got + none → kept ≡ 0 → told' ≡ told + shelf → shelf ≡ kept → last ≡ here → told' + last + given ≡ got + none
-kept_last told given got none a b c d e = omega arith
-
-pub told_same : {told' shelf kept : ℕ} (told : ℕ) → told' ≡ told + shelf → shelf ≡ kept → kept ≡ 0 → told' ≡ told
-told_same told a b c = omega arith
-
--- or it goes home
-pub told_more : {told' : ℕ} (told here given got none shelf given' : ℕ) → told + here + given ≡ got + none → told' ≡ told + shelf → shelf + given' ≡ here + given → told' + given' ≡ got + none
-told_more told here given got none shelf given' a b c = omega arith
+-- where none was left of those before, no more than its blocks are
+pub left_last : {given given' n read last : ℕ} (list here : ℕ) → here + given' ≡ list + n + given → given ≤ given' → n ≡ read → last ≡ read → list ≤ 0 → here ≤ last
+left_last list here a b c d e = omega arith
 
 -- the places for it
-pub room_kept : {blocks blocks' here' last : ℕ} (room here room' : ℕ) → blocks + blocks ≤ room + (0 + 0) → room + (here + here) ≤ room' + (here' + here') → blocks' ≡ blocks → last ≡ here'
-    → blocks' + blocks' ≤ room' + (last + last)
-room_kept room here room' a b c d = omega arith
+pub room_kept : {blocks blocks' : ℕ} (room list here room' : ℕ) → blocks + blocks ≤ room + (0 + 0) → room + (list + list) ≤ room' + (here + here) → blocks' ≡ blocks → blocks' + blocks' ≤ room' + (here + here)
+room_kept room list here room' a b c = omega arith
 
-pub room_more : {blocks blocks' here' last room' room'' blocks'' : ℕ} (room here : ℕ) → blocks + blocks ≤ room + (0 + 0) → room + (here + here) ≤ room' + (here' + here') → blocks' ≡ blocks → last ≡ here'
-    → room' ≤ room'' → blocks'' ≡ blocks' → blocks'' + blocks'' ≤ room'' + (last + last)
-room_more room here a b c d e f = omega arith
+pub room_more : {blocks blocks' room' room'' blocks'' : ℕ} (room list here : ℕ) → blocks + blocks ≤ room + (0 + 0) → room + (list + list) ≤ room' + (here + here) → blocks' ≡ blocks
+    → room' ≤ room'' → blocks'' ≡ blocks' → blocks'' + blocks'' ≤ room'' + (here + here)
+room_more room list here a b c d e = omega arith

@@ -1,13 +1,11 @@
--- A giver that is lent, and comes back.
-use Rattle.std.proofs.Common.{◌≡◌, ℕ, ◌+◌, ◌-◌, ◌^◌, ◌≤◌, ◌⊎◌, inl, inr, min, List, [], length, ◌∙◌, Option, None, Some, refl, sym, ap, subst, arith}
-use Rattle.raw_block.specs.Views.{SoleState}
-use Rattle.block_pool.specs.Giving.{GiverState}
+-- A giver that is lent, and comes back, and what it leaves on a list.
+use Rattle.std.proofs.Common.{ℕ, ◌-◌, ◌^◌, ◌≤◌, ◌⊎◌, inl, inr, min, ◌∙◌, Option, None, Some, refl, sym, ap, subst, arith}
+use Rattle.block_pool.specs.Giving.{GiverState, given_by}
 use Rattle.block_pool.specs.PassState.{risen, SharedState}
-use Rattle.rounds.specs.Benches.{IsLent, LeavesNoSpare, Lends}
+use Rattle.block_pool.specs.PoolState.{PoolState, home}
+use Rattle.rounds.specs.Benches.{IsLent, Lends}
 use Rattle.block_supply.specs.Lists.{HasGiver}
-use Rattle.crossing.specs.declared.token.Token.{Token}
-use Rattle.crossing.specs.Tokens.{homes_of}
-use Rattle.pipeline.specs.Parcels.{fulls_by, BringsNone}
+use Rattle.pipeline.specs.Parcels.{fulls_by, IsLeft, Returns}
 
 pub lends_same : (g : Option GiverState) → IsLent g → Lends g g
 lends_same None lent = refl
@@ -38,35 +36,37 @@ giver_back pool old new has lends =
     let a : Lends (Some has.it) new = subst (λ (g : Option GiverState). Lends g new) has.is lends in
     record { it = a.0; is = a.1; pool_is = a.2.pool ∙ has.pool_is; parts = a.2.pass.2 ∙ has.parts; none = a.2.none }
 
--- ---- no token brings a block
+-- what it gave it gave
+pub given_least : (old new : Option GiverState) → Lends old new → given_by old ≤ given_by new
+given_least None new lends = omega arith
+given_least (Some g) new lends = omega (arith, lends.2.least, ap given_by lends.1)
 
-pub brings_none : (g : Option GiverState) → BringsNone [] g g
-brings_none None = tt
-brings_none (Some g) = inl refl
+-- ---- what goes back by it
+
+pub returns_fewer : (old new : Option GiverState) (list list' : PoolState) → Returns old new list list' → home list' ≤ home list
+returns_fewer old new list list' r = omega (arith, r.sum, given_least old new r.gave)
+
+-- ---- what is left
 
 fulls_lent : (old new : Option GiverState) → Lends old new → min (fulls_by old) (2 ^ 64 - 1) ≤ fulls_by new
 fulls_lent None new lends = omega arith
 fulls_lent (Some g) new lends = omega (arith, lends.2.fulls, ap fulls_by lends.1)
 
--- one comes with nothing on its shelf
-pub brings_none_lent : (ts us : List Token) (old mid new : Option GiverState) → homes_of us ≡ homes_of ts → Lends mid new → BringsNone ts old mid → BringsNone us old new
-brings_none_lent ts us None mid new e lends none = tt
-brings_none_lent ts us (Some g) mid new e lends (inl none) = inl (e ∙ none)
-brings_none_lent ts us (Some g) mid new e lends (inr full) = inr (omega (arith, full, fulls_lent mid new lends))
+pub left_few : (n : ℕ) (list : PoolState) (old new : Option GiverState) → home list ≤ n → IsLeft n list old new
+left_few n list None new few = tt
+left_few n list (Some g) new few = inl few
 
-one_more : (h h' : ℕ) (blocks : List SoleState) (first was now is : ℕ) → h' ≡ h + length blocks → min first (2 ^ 64 - 1) ≤ was → min was (2 ^ 64 - 1) ≤ now → min now (2 ^ 64 - 1) ≤ is
-    → (h ≡ 0) ⊎ (risen first ≤ was) → (blocks ≡ []) ⊎ (risen now ≤ is) → (h' ≡ 0) ⊎ (risen first ≤ is)
-one_more h h' blocks first was now is e a b c (inl none) (inl left) = inl (omega (arith, e, none, ap length left))
-one_more h h' blocks first was now is e a b c (inl none) (inr full) = inr (omega (arith, a, b, full))
-one_more h h' blocks first was now is e a b c (inr full) left = inr (omega (arith, b, c, full))
+-- by a giver that was lent before
+pub left_then : (n : ℕ) (list : PoolState) (old mid new : Option GiverState) → Lends old mid → IsLeft n list mid new → IsLeft n list old new
+left_then n list None mid new lends left = tt
+left_then n list (Some g) mid new lends left = by_mid (subst (λ (z : Option GiverState). IsLeft n list z new) lends.1 left)
+  where
+    by_mid : (home list ≤ n) ⊎ (risen lends.0.pass.fulls ≤ fulls_by new) → (home list ≤ n) ⊎ (risen g.pass.fulls ≤ fulls_by new)
+    by_mid (inl few) = inl few
+    by_mid (inr full) = inr (omega (arith, full, lends.2.fulls))
 
--- one comes with what found no place
-pub brings_none_more : (ts us : List Token) (old was now is : Option GiverState) (blocks : List SoleState) → homes_of us ≡ homes_of ts + length blocks → Lends old was → Lends was now → Lends now is
-    → LeavesNoSpare now is blocks → BringsNone ts old was → BringsNone us old is
-brings_none_more ts us None was now is blocks e a b c left none = tt
-brings_none_more ts us (Some g) was now is blocks e a b c left none =
-    let m : Lends (Some a.0) now = subst (λ z. Lends z now) a.1 b in
-    let s : LeavesNoSpare (Some m.0) is blocks = subst (λ z. LeavesNoSpare z is blocks) m.1 left in
-    let n : (blocks ≡ []) ⊎ (risen (fulls_by now) ≤ fulls_by is) = subst (λ z. (blocks ≡ []) ⊎ (risen (fulls_by z) ≤ fulls_by is)) (sym m.1)
-    (subst (λ z. (blocks ≡ []) ⊎ (risen m.0.pass.fulls ≤ fulls_by z)) (sym s.1) s.2) in
-    one_more (homes_of ts) (homes_of us) blocks g.pass.fulls (fulls_by was) (fulls_by now) (fulls_by is) e (fulls_lent (Some g) was a) (fulls_lent was now b) (fulls_lent now is c) none n
+-- and by one that is lent again, where the list becomes another
+pub left_again : (n m : ℕ) (list list' : PoolState) (old mid new : Option GiverState) → Lends mid new → (home list ≤ n → home list' ≤ m) → IsLeft n list old mid → IsLeft m list' old new
+left_again n m list list' None mid new lends more left = tt
+left_again n m list list' (Some g) mid new lends more (inl few) = inl (more few)
+left_again n m list list' (Some g) mid new lends more (inr full) = inr (omega (arith, full, fulls_lent mid new lends))

@@ -1,10 +1,10 @@
 -- Rounds that were read one after another.
-use Rattle.std.proofs.Common.{◌≡◌, ◌+◌, ◌≤◌, ℕ, List, [], ◌∷◌, ◌++◌, Option, Some, None, refl, ap, ◌∙◌, sym, subst, length, arith, append_assoc, append-nil}
+use Rattle.std.proofs.Common.{◌≡◌, ◌+◌, ◌≤◌, ℕ, List, [], ◌∷◌, ◌++◌, Option, refl, ap, ◌∙◌, sym, subst, length, arith, append_assoc}
 use Rattle.pcap_io.specs.declared.place.Place.{Place}
 use Rattle.rounds.specs.declared.round.RoundRead.{RoundRead}
 use Rattle.rounds.specs.Reads.{Spot, spot, ReadRound}
 use Rattle.pipeline.specs.declared.parcel.Parcel.{Parcel}
-use Rattle.pipeline.specs.Parcels.{blocks_of, packets_of, rounds_of, weights_sent}
+use Rattle.pipeline.specs.Parcels.{blocks_of, last_blocks, packets_of, rounds_of, weights_sent}
 
 -- ---- lists
 
@@ -12,21 +12,27 @@ pub none_known : {A : Type 0} (xs : List A) → length xs ≤ 0 → xs ≡ []
 none_known [] e = refl
 none_known (x ∷ xs) e = absurd (omega (arith, e))
 
-pub blocks_last : (xs : List (Option Parcel)) (x : Option Parcel) → blocks_of (xs ++ x ∷ []) ≡ blocks_of xs + blocks_of (x ∷ [])
+pub blocks_last : (xs : List Parcel) (x : Parcel) → blocks_of (xs ++ x ∷ []) ≡ blocks_of xs + blocks_of (x ∷ [])
 blocks_last [] x = omega arith
-blocks_last (None ∷ xs) x = blocks_last xs x
-blocks_last (Some p ∷ xs) x = omega (arith, blocks_last xs x)
+blocks_last (p ∷ xs) x = omega (arith, blocks_last xs x)
 
-pub blocks_append : (xs ys : List (Option Parcel)) → blocks_of (xs ++ ys) ≡ blocks_of xs + blocks_of ys
+pub blocks_append : (xs ys : List Parcel) → blocks_of (xs ++ ys) ≡ blocks_of xs + blocks_of ys
 blocks_append [] ys = omega arith
-blocks_append (None ∷ xs) ys = blocks_append xs ys
-blocks_append (Some p ∷ xs) ys = omega (arith, blocks_append xs ys)
+blocks_append (p ∷ xs) ys = omega (arith, blocks_append xs ys)
 
 -- what these weigh, each by its name
-pub weights_sent_append : (h : ℕ → ℕ) (xs ys : List (Option Parcel)) → weights_sent h (xs ++ ys) ≡ weights_sent h xs + weights_sent h ys
+pub weights_sent_append : (h : ℕ → ℕ) (xs ys : List Parcel) → weights_sent h (xs ++ ys) ≡ weights_sent h xs + weights_sent h ys
 weights_sent_append h [] ys = omega arith
-weights_sent_append h (None ∷ xs) ys = weights_sent_append h xs ys
-weights_sent_append h (Some p ∷ xs) ys = omega (arith, weights_sent_append h xs ys)
+weights_sent_append h (p ∷ xs) ys = omega (arith, weights_sent_append h xs ys)
+
+-- the last one's
+pub last_is : (xs xs1 : List Parcel) (p : Parcel) → xs1 ≡ xs ++ p ∷ [] → last_blocks xs1 ≡ p.read.round.blocks
+last_is xs xs1 p is = ap last_blocks is ∙ ends xs
+  where
+    ends : (ys : List Parcel) → last_blocks (ys ++ p ∷ []) ≡ p.read.round.blocks
+    ends [] = refl
+    ends (y ∷ []) = refl
+    ends (y ∷ z ∷ ys) = ends (z ∷ ys)
 
 -- what a ring has, of which some was received, is all that was sent
 pub sum_of_both : {A : Type 0} (sum : List A → ℕ) → ((xs ys : List A) → sum (xs ++ ys) ≡ sum xs + sum ys) → (got now known all sent : List A) → now ≡ got → now ++ known ≡ all → all ≡ sent → sum got + sum known ≡ sum sent
@@ -34,34 +40,25 @@ sum_of_both sum append got now known all sent same fifo is = ap (λ l. sum l + s
 
 -- ---- rounds
 
-pub rounds_append : (xs ys : List (Option Parcel)) → rounds_of (xs ++ ys) ≡ rounds_of xs ++ rounds_of ys
+pub rounds_append : (xs ys : List Parcel) → rounds_of (xs ++ ys) ≡ rounds_of xs ++ rounds_of ys
 rounds_append [] ys = refl
-rounds_append (None ∷ xs) ys = rounds_append xs ys
-rounds_append (Some p ∷ xs) ys = ap (λ (rs : List RoundRead). p.read ∷ rs) (rounds_append xs ys)
+rounds_append (p ∷ xs) ys = ap (λ (rs : List RoundRead). p.read ∷ rs) (rounds_append xs ys)
 
 pub packets_append : (xs ys : List RoundRead) → packets_of (xs ++ ys) ≡ packets_of xs + packets_of ys
 packets_append [] ys = omega arith
 packets_append (x ∷ xs) ys = omega (arith, packets_append xs ys)
 
-pub packets_none : (n : ℕ) (xs : List (Option Parcel)) → xs ≡ [] → packets_of (rounds_of xs) ≤ n
-packets_none n xs none = subst (λ (ys : List (Option Parcel)). packets_of (rounds_of ys) ≤ n) (sym none) (omega arith)
+pub packets_none : (n : ℕ) (xs : List Parcel) → xs ≡ [] → packets_of (rounds_of xs) ≤ n
+packets_none n xs none = subst (λ (ys : List Parcel). packets_of (rounds_of ys) ≤ n) (sym none) (omega arith)
 
 -- one round more was sent
-pub sent_more : (before sent sent1 : List (Option Parcel)) (more : List RoundRead) (p : Parcel) → rounds_of sent ≡ rounds_of before ++ more → sent1 ≡ sent ++ Some p ∷ []
+pub sent_more : (before sent sent1 : List Parcel) (more : List RoundRead) (p : Parcel) → rounds_of sent ≡ rounds_of before ++ more → sent1 ≡ sent ++ p ∷ []
     → rounds_of sent1 ≡ rounds_of before ++ (more ++ p.read ∷ [])
 sent_more before sent sent1 more p is is1 =
-    ap rounds_of is1 ∙ rounds_append sent (Some p ∷ []) ∙ ap (λ (rs : List RoundRead). rs ++ p.read ∷ []) is ∙ append_assoc (rounds_of before) more (p.read ∷ [])
+    ap rounds_of is1 ∙ rounds_append sent (p ∷ []) ∙ ap (λ (rs : List RoundRead). rs ++ p.read ∷ []) is ∙ append_assoc (rounds_of before) more (p.read ∷ [])
 
--- or none
-pub sent_none : (before sent sent1 : List (Option Parcel)) (more : List RoundRead) → rounds_of sent ≡ rounds_of before ++ more → sent1 ≡ sent ++ None ∷ []
-    → rounds_of sent1 ≡ rounds_of before ++ more
-sent_none before sent sent1 more is is1 = ap rounds_of is1 ∙ rounds_append sent (None ∷ []) ∙ append-nil (rounds_of sent) ∙ is
-
-pub rounds_last : (xs xs1 : List (Option Parcel)) (p : Parcel) → xs1 ≡ xs ++ Some p ∷ [] → rounds_of xs1 ≡ rounds_of xs ++ p.read ∷ []
-rounds_last xs xs1 p is = ap rounds_of is ∙ rounds_append xs (Some p ∷ [])
-
-pub rounds_none : (xs xs1 : List (Option Parcel)) (x : Option Parcel) → x ≡ None → xs1 ≡ xs ++ x ∷ [] → rounds_of xs1 ≡ rounds_of xs
-rounds_none xs xs1 x none is = ap rounds_of (is ∙ ap (λ (y : Option Parcel). xs ++ y ∷ []) none) ∙ rounds_append xs (None ∷ []) ∙ append-nil (rounds_of xs)
+pub rounds_last : (xs xs1 : List Parcel) (p : Parcel) → xs1 ≡ xs ++ p ∷ [] → rounds_of xs1 ≡ rounds_of xs ++ p.read ∷ []
+rounds_last xs xs1 p is = ap rounds_of is ∙ rounds_append xs (p ∷ [])
 
 -- the same round, by names of the same numbers
 pub read_as : (b b' n n' t t' : ℕ) (place : Place) (left : Option (List ℕ)) (faults : ℕ) (to : Spot) (read : RoundRead) → b' ≡ b → n' ≡ n → t' ≡ t

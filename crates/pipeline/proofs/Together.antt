@@ -65,7 +65,7 @@ pub record Lent (state new : RoundsState) (intake : IntakeState) (home back : �
 
 -- The first round was read and full, and alone in the ring as the sides began. What was received of all that was sent, and what wasn't,
 -- is known once they have joined.
-pub record Sent (state : RoundsState) (intake : IntakeState) (read : RoundRead) (at to : Spot) (back : ℕ) (one sent got known : List (Option Parcel)) : Type 0 where
+pub record Sent (state : RoundsState) (intake : IntakeState) (read : RoundRead) (at to : Spot) (back : ℕ) (one sent got known : List Parcel) : Type 0 where
   pub out : state.home + read.round.blocks ≡ state.blocks
   pub full : read.end ≡ rounds.Full
   pub few : state.taken < 2 ^ 64
@@ -75,7 +75,7 @@ pub record Sent (state : RoundsState) (intake : IntakeState) (read : RoundRead) 
   pub later : at.faults ≤ to.faults
 
 module _ {T E : Type 0} (did : T → T → RoundRead → ℕ → Option E → Type 0) (stopped : E) (ready : ℕ → T → Type 0) (state new : RoundsState) (intake : IntakeState) (home back : ℕ)
-    (read : RoundRead) (at to : Spot) (one sent got known : List (Option Parcel)) (re : Lent state new intake home back) (s : Sent state intake read at to back one sent got known)
+    (read : RoundRead) (at to : Spot) (one sent got known : List Parcel) (re : Lent state new intake home back) (s : Sent state intake read at to back one sent got known)
     (was is : T) (counted : IsReadyAtEnd ready is) where
   abbrev first : Spot
   first = record at { taken = state.taken }
@@ -150,11 +150,11 @@ module _ {T E : Type 0} (did : T → T → RoundRead → ℕ → Option E → Ty
   Came result = MayBeHandled did stopped ready state new read first last was is result
 
   -- no side worked
-  unworked : (result : Result E RoundRead) (left : List (Option Parcel)) → home + blocks_out result ≡ state.blocks → IsBroughtBut result → (got ≡ []) × (is ≡ was)
+  unworked : (result : Result E RoundRead) (left : List Parcel) → home + blocks_out result ≡ state.blocks → IsBroughtBut result → (got ≡ []) × (is ≡ was)
       → ComesBack stopped known left result → Came result
   unworked (Ok end) left all brought none back = subst (λ (e : E). Came (Ok e)) (sym back.0) (none_went (omega (arith, all)) (λ h. omega (arith, brought h)) none.1)
   unworked (Err x) left all brought none back =
-      let sent_is : sent ≡ Some back.0 ∷ [] = sym s.fifo ∙ ap (λ (l : List (Option Parcel)). l ++ known) none.0 ∙ back.2 in
+      let sent_is : sent ≡ back.0 ∷ [] = sym s.fifo ∙ ap (λ (l : List Parcel). l ++ known) none.0 ∙ back.2 in
       let front : back.0.read ∷ [] ≡ read ∷ s.on.more = sym (ap rounds_of sent_is) ∙ s.on.sent ∙ ap (λ (rs : List RoundRead). rs ++ s.on.more) first_is in
       let same : back.0.read ≡ read = ap (front_of back.0.read) front in
       let is_read : x ≡ read = sym back.1 ∙ same in (
@@ -164,7 +164,7 @@ module _ {T E : Type 0} (did : T → T → RoundRead → ℕ → Option E → Ty
       )
 
   -- whether a side worked or not
-  pub all_went : (end : Option E) (result : Result E RoundRead) (left : List (Option Parcel)) → home + blocks_out result ≡ state.blocks → IsBroughtBut result
+  pub all_went : (end : Option E) (result : Result E RoundRead) (left : List Parcel) → home + blocks_out result ≡ state.blocks → IsBroughtBut result
       → MatchOption end ((got ≡ []) × (is ≡ was)) (λ e. Ends did stopped 0 was is (rounds_of got) e)
       → IfSome end (λ e. (result ≡ Ok e) × (left ≡ known)) → (end ≡ None → ComesBack stopped known left result) → Came result
   all_went (Some end) result left all brought ends some none =
@@ -172,7 +172,7 @@ module _ {T E : Type 0} (did : T → T → RoundRead → ℕ → Option E → Ty
   all_went None result left all brought ends some none = unworked result left all brought ends (none refl)
 
 -- what the side that works says, by the options of both
-pub ends_as : {T E : Type 0} (did : Options → T → T → RoundRead → ℕ → Option E → Type 0) (stopped : E) (o o' : Options) (got : List (Option Parcel)) (was is : T) (end : Option E)
+pub ends_as : {T E : Type 0} (did : Options → T → T → RoundRead → ℕ → Option E → Type 0) (stopped : E) (o o' : Options) (got : List Parcel) (was is : T) (end : Option E)
     → o' ≡ o
     → MatchOption end ((got ≡ []) × (is ≡ was)) (λ e. Ends (did o') stopped 0 was is (rounds_of got) e)
     → MatchOption end ((got ≡ []) × (is ≡ was)) (λ e. Ends (did o) stopped 0 was is (rounds_of got) e)
@@ -180,7 +180,7 @@ ends_as did stopped o o' got was is end same ends =
     subst (λ (z : Options). MatchOption end ((got ≡ []) × (is ≡ was)) (λ e. Ends (did z) stopped 0 was is (rounds_of got) e)) same ends
 
 -- what of the rounds in the ring is there still, and the one that was taken out
-pub left_out : {E : Type 0} (stopped : E) (end : Option E) (result : Result E RoundRead) (known left : List (Option Parcel)) → IfSome end (λ e. (result ≡ Ok e) × (left ≡ known))
+pub left_out : {E : Type 0} (stopped : E) (end : Option E) (result : Result E RoundRead) (known left : List Parcel) → IfSome end (λ e. (result ≡ Ok e) × (left ≡ known))
     → (end ≡ None → ComesBack stopped known left result) → blocks_of left + blocks_out result ≡ blocks_of known
 left_out stopped (Some end) result known left some none = omega (arith, ap blocks_of some.1, ap blocks_out some.0)
 left_out stopped None (Ok end) known left some none = omega (arith, (none refl).1)
@@ -189,7 +189,7 @@ left_out stopped None (Err x) known left some none =
     omega (arith, ap blocks_of back.2, ap blocks_of back.3, ap (λ (r : RoundRead). r.round.blocks) back.1)
 
 -- and what these weigh, each by its name
-pub left_weights : {E : Type 0} (h : ℕ → ℕ) (stopped : E) (end : Option E) (result : Result E RoundRead) (known left : List (Option Parcel)) → IfSome end (λ e. (result ≡ Ok e) × (left ≡ known))
+pub left_weights : {E : Type 0} (h : ℕ → ℕ) (stopped : E) (end : Option E) (result : Result E RoundRead) (known left : List Parcel) → IfSome end (λ e. (result ≡ Ok e) × (left ≡ known))
     → (end ≡ None → ComesBack stopped known left result) → weights_sent h left + weights_out result h ≡ weights_sent h known
 left_weights h stopped (Some end) result known left some none = omega (arith, ap (weights_sent h) some.1, ap (λ r. weights_out r h) some.0)
 left_weights h stopped None (Ok end) known left some none = omega (arith, (none refl).2 h)

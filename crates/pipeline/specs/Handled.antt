@@ -1,5 +1,5 @@
 -- What was done with rounds of which the first was read before.
-use Rattle.std.specs.Prelude.{ℕ, ◌≡◌, ◌+◌, ◌≤◌, false, Option, Some, List, [], ◌∷◌, ◌++◌, length, Result, Ok, Err}
+use Rattle.std.specs.Prelude.{ℕ, ◌≡◌, ◌+◌, ◌≤◌, false, Option, List, [], ◌∷◌, ◌++◌, length, Result, Ok, Err}
 use Rattle.std.specs.Prelude.{MatchOption}
 use Rattle.block_pool.specs.Giving.{GiverState, given_by, weights_given}
 use Rattle.block_pool.specs.PoolState.{PoolState, home, weighed}
@@ -15,9 +15,7 @@ use Rattle.rounds.specs.Reads.{Spot, Reads, is_full}
 use Rattle.rounds.specs.RoundsState.{BenchState, RoundsState}
 use Rattle.rounds.specs.Weights.{weights_of}
 use Rattle.pipeline.specs.declared.parcel.Parcel.{Parcel}
-use Rattle.crossing.specs.declared.token.Token.{Token}
-use Rattle.crossing.specs.Tokens.{homes_of, weights_back}
-use Rattle.pipeline.specs.Parcels.{blocks_of, rounds_of, weights_sent, BringsNone}
+use Rattle.pipeline.specs.Parcels.{blocks_of, last_blocks, rounds_of, weights_sent, IsLeft}
 
 -- As `Ran` of the rounds says, behind a round that was read up to here, and with it.
 pub record RanOn {T E : Type 0} (did : T → T → RoundRead → ℕ → Option E → Type 0) (stopped : E) (blocks budget : ℕ)
@@ -89,34 +87,34 @@ weights_out (Ok end) h = 0
 weights_out (Err read) h = weights_of read.round h
 
 -- of rounds that nobody received the only one comes back; else it was stopped for want of memory
-abbrev pub ComesBack : {E : Type 0} → E → List (Option Parcel) → List (Option Parcel) → Result E RoundRead → Type 0
+abbrev pub ComesBack : {E : Type 0} → E → List Parcel → List Parcel → Result E RoundRead → Type 0
 ComesBack stopped old new (Ok end) = (end ≡ stopped) × (blocks_of new ≡ blocks_of old)
     × ((h : ℕ → ℕ) → weights_sent h new ≡ weights_sent h old)
-ComesBack stopped old new (Err read) = (p : Parcel) × (p.read ≡ read) × (old ≡ Some p ∷ []) × (new ≡ [])
+ComesBack stopped old new (Err read) = (p : Parcel) × (p.read ≡ read) × (old ≡ p ∷ []) × (new ≡ [])
 
 -- ---- the side that works
 
--- it may begin
-pub record MayWork {T : Type 0} (starts : ℕ → T → Type 0) (blocks : ℕ) (bench : BenchState) (kept : PoolState)
-    (giver : Option GiverState) (got : List (Option Parcel)) (told : List Token) (into : T) : Type 0 where
+-- it may begin, with an empty list
+pub record MayWork {T : Type 0} (starts : ℕ → T → Type 0) (blocks : ℕ) (bench : BenchState) (list : PoolState)
+    (giver : Option GiverState) (got : List Parcel) (into : T) : Type 0 where
   pub named : bench.blocks ≡ blocks
   pub room : HasRoom 0 bench
-  pub empty : home kept ≡ 0
+  pub empty : home list ≡ 0
   pub lent : IsLent giver
-  pub none : (got ≡ []) × (told ≡ [])
+  pub none : got ≡ []
   pub start : starts 0 into
 
--- It has ended, with what it got; `None` where no reader had begun. What it got went home by tokens and by the giver,
--- but for what it kept.
+-- It has ended, with what it got; `None` where no reader had begun. What it got went home by the giver, but for what is
+-- left on its list: no more than the last round had, unless a put found no place.
 pub record HasWorked {T E : Type 0} (did : T → T → RoundRead → ℕ → Option E → Type 0) (stopped : E)
-    (starts : ℕ → T → Type 0) (bench bench' : BenchState) (kept : PoolState) (giver giver' : Option GiverState)
-    (was is : T) (got : List (Option Parcel)) (told : List Token) (end : Option E) : Type 0 where
+    (starts : ℕ → T → Type 0) (bench bench' : BenchState) (list : PoolState) (giver giver' : Option GiverState)
+    (was is : T) (got : List Parcel) (end : Option E) : Type 0 where
   pub handled : MatchOption end ((got ≡ []) × (is ≡ was)) (λ e. Ends did stopped 0 was is (rounds_of got) e)
   pub ready : IsReadyAtEnd starts is
-  pub each : homes_of told + home kept + given_by giver' ≡ blocks_of got + given_by giver
-  pub each_named : (h : ℕ → ℕ) → weights_back h told + weighed h kept.blocks + weights_given giver' h
+  pub each : home list + given_by giver' ≡ blocks_of got + given_by giver
+  pub each_named : (h : ℕ → ℕ) → weighed h list.blocks + weights_given giver' h
       ≡ weights_sent h got + weights_given giver h
   pub lends : Lends giver giver'
-  pub none_left : BringsNone told giver giver'
-  pub room : HasRoom (home kept) bench'
+  pub none_left : IsLeft (last_blocks got) list giver giver'
+  pub room : HasRoom (home list) bench'
   pub same : IsSameBench bench bench'

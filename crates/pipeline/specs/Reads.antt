@@ -1,5 +1,5 @@
 -- What the side that reads says of the rounds that it sent, one after another.
-use Rattle.std.specs.Prelude.{ℕ, ◌≡◌, ◌+◌, ◌≤◌, Option, Some, List, [], ◌∷◌, ◌++◌, length}
+use Rattle.std.specs.Prelude.{ℕ, ◌≡◌, ◌+◌, ◌≤◌, List, [], ◌∷◌, ◌++◌, length}
 use Rattle.block_pool.specs.PoolState.{weighed}
 use Rattle.pcap_io.specs.declared.heads.Link.TheVariants.{Ethernet}
 use Rattle.pcap_io.specs.declared.place.Place.{Place}
@@ -16,33 +16,32 @@ use Rattle.crossing.specs.Desks.{brought_to, weights_to}
 use Rattle.pipeline.specs.Parcels.{blocks_of, rounds_of, weights_sent}
 
 -- behind the rounds that were sent before, these were read and sent
-pub record ReadOn (blocks budget : ℕ) (from to : Spot) (before after : List (Option Parcel)) : Type 0 where
+pub record ReadOn (blocks budget : ℕ) (from to : Spot) (before after : List Parcel) : Type 0 where
   pub more : List RoundRead
   pub sent : rounds_of after ≡ rounds_of before ++ more
   pub reads : Reads blocks budget from more to
 
 -- this round was sent, and no other one
-abbrev pub IsAlone : RoundRead → List (Option Parcel) → Type 0
-IsAlone read xs = (p : Parcel) × (xs ≡ Some p ∷ []) × (p.read ≡ read)
+abbrev pub IsAlone : RoundRead → List Parcel → Type 0
+IsAlone read xs = (p : Parcel) × (xs ≡ p ∷ []) × (p.read ≡ read)
 
 -- a full round was, of no more packets than were read
-abbrev pub IsFirst : ℕ → List (Option Parcel) → Type 0
-IsFirst number xs = (p : Parcel) × (xs ≡ Some p ∷ []) × (p.read.end ≡ ends.Full)
+abbrev pub IsFirst : ℕ → List Parcel → Type 0
+IsFirst number xs = (p : Parcel) × (xs ≡ p ∷ []) × (p.read.end ≡ ends.Full)
     × (length p.read.round.packets ≤ number)
 
 -- ---- the side that reads
 
--- it may begin, of so many blocks, where shelves are for so many
-pub record MayRead (blocks shelf : ℕ) (intake : IntakeState) (place : Place) (sent : List (Option Parcel))
-    : Type 0 where
+-- it may begin, of so many blocks
+pub record MayRead (blocks : ℕ) (intake : IntakeState) (place : Place) (sent : List Parcel) : Type 0 where
   pub ready : IsReady place
   pub link : place.link ≡ Ethernet
-  pub named : (intake.blocks ≡ blocks) × (shelf ≡ blocks)
+  pub named : intake.blocks ≡ blocks
   pub first : IsFirst place.number sent
 
 -- it read on so far: what it sent was home, or came to the desk meanwhile
 pub record HasRead {W : Type 0} {G : Ghosts W} (old new : IntakeState) (from to : Spot)
-    (before after : List (Option Parcel)) (desk desk' : Desk W G) : Type 0 where
+    (before after : List Parcel) (desk desk' : Desk W G) : Type 0 where
   pub read : ReadOn old.blocks old.budget from to before after
   pub sum : new.home + blocks_of after + brought_to desk ≡ old.home + blocks_of before + brought_to desk'
   pub named : (h : ℕ → ℕ) → weighed h new.stock + weights_sent h after + weights_to desk h

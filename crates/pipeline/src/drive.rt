@@ -8,7 +8,6 @@ ghost use Rattle.rounds.specs.Handled.{Handled};
 ghost use Rattle.rounds.specs.Merging.{options_of};
 ghost use Rattle.rounds.specs.Reads.{reader_at};
 ghost use Rattle.rtrb.specs.Ring.{sent, received, known_items, IsPair, SameProducer};
-ghost use Rattle.crossing.specs.Tokens.{IsOfRing, shelved};
 ghost use Rattle.pipeline.specs.Handled.{ComesBack, HandledOn, IsOut, MayBeHandled, MayHandle};
 ghost use Rattle.pipeline.specs.Reads.{IsAlone};
 
@@ -17,78 +16,74 @@ use crate::here::handle_here;
 use crate::parcel::{Fits, Parcel};
 use crate::sides::{Reading, is_full, run_sides};
 use block_pool::Pool;
-use crossing::{Away, Bells, Desk, Naming, SHELVES, Sleeper, Ways, new_shelves, open_ways, send};
+use crossing::{Away, Bells, Desk, IN_RING, Naming, Sleeper, Way, new_spent, open_way, send};
 use lanes::Works;
 use off_io::Source;
 use pcap_io::CaptureReader;
 use rounds::{Bench, RoundEnd, RoundHandler, RoundRead, Rounds};
 use rtrb::{Consumer, Producer, RingBuffer};
 use std::alloc::{AllocError, Global};
-use std::collections::VecDeque;
 use std::marker::Brand;
 use std::sync::Wait;
 use std::thread;
 use std::thread::Threads;
 
-// The ring that rounds go by, an empty shelf for the first of them, one on which the last one stays, and others. Where
-// there is no memory for them, or for what is given back of all blocks, nothing is changed.
+// The ring that rounds go by, an empty list for the blocks that a round leaves, and others whose memory goes to and
+// fro. Where there is no memory for them, or for what is given back of all blocks, nothing is changed.
 fn prepare<N: Naming>(
     alloc: Global,
     bench: &mut Bench,
 ) -> Result<
     (
-        Producer<Option<Parcel>, Global, Fits<N>>,
-        Consumer<Option<Parcel>, Global, Fits<N>>,
+        Producer<Parcel, Global, Fits<N>>,
+        Consumer<Parcel, Global, Fits<N>>,
         Pool,
         Pool,
-        VecDeque<Pool>,
+        Vec<Pool>,
     ),
     AllocError,
 >
     ensures ring { IfOk result (λ r. IsPair r.0 r.1 × (sent r.0 ≡ []) × (received r.1 ≡ [])) }
-    ensures shelf { IfOk result (λ r. (home r.2 ≡ 0) × (r.2.made ≡ bench.old.blocks)) }
-    ensures last { IfOk result (λ r. home r.3 ≡ 0) }
-    ensures shelves { IfOk result (λ r. shelved r.4.items ≡ 0) }
+    ensures list { IfOk result (λ r. home r.2 ≡ 0) }
     ensures room { OnOk result (HasRoom 0 bench.new) }
     ensures later { bench.old.room ≤ bench.new.room }
     ensures same { IsSameBench bench.old bench.new }
 {
     let blocks = bench.blocks();
-    let (out, from) = RingBuffer::with_protocol::<Global, Fits<N>>(alloc, SHELVES + 1)?;
-    let shelf = Pool::empty(alloc, blocks)?;
-    let kept = Pool::empty(alloc, blocks)?;
-    let shelves = new_shelves(alloc, blocks)?;
+    let (out, from) = RingBuffer::with_protocol::<Global, Fits<N>>(alloc, IN_RING)?;
+    let list = Pool::empty(alloc, blocks)?;
+    let next = Pool::empty(alloc, blocks)?;
+    let spent = new_spent(alloc, blocks)?;
     bench.make_room()?;
-    Ok((out, from, shelf, kept, shelves))
+    Ok((out, from, list, next, spent))
 }
 
 // The first round goes by the ring before there are two sides.
 fn send_first<N: Naming, R: Wait>(
     rt: &R,
-    out: &mut Producer<Option<Parcel>, Global, Fits<N>>,
+    out: &mut Producer<Parcel, Global, Fits<N>>,
     read: RoundRead,
-    shelf: Pool,
+    spent: Pool,
 )
     requires none { sent out.old ≡ [] }
     requires within { read.round.blocks ≤ N.blocks }
     requires read { IsRead read.round }
-    requires shelf { (home shelf ≡ 0) × (shelf.made ≡ N.blocks) }
     ensures ring { SameProducer out.old out.new }
     ensures sent { IsAlone read (sent out.new) }
 {
     let parcel = Parcel {
         number: 0,
         read,
-        shelf,
+        spent: Some(spent),
     };
-    send(rt, out, Some(parcel));
+    send(rt, out, parcel);
 }
 
 // The round that waits, which nobody received, where it is the only one.
 fn take_back<N: Naming, T, E, H: RoundHandler<T, E>>(
     waiting: usize,
     handler: &H,
-    from: &mut Consumer<Option<Parcel>, Global, Fits<N>>,
+    from: &mut Consumer<Parcel, Global, Fits<N>>,
 ) -> Result<E, RoundRead>
     requires waiting { waiting ≡ length (known_items from.old) }
     ensures back { ComesBack H.stopped (known_items from.old) (known_items from.new) result }
@@ -96,13 +91,8 @@ fn take_back<N: Naming, T, E, H: RoundHandler<T, E>>(
     if waiting != 1 {
         return Ok(handler.stop());
     }
-    match from.pop_known() {
-        Some(parcel) => {
-            let (_, read, _shelf) = parcel.open();
-            Err(read)
-        }
-        None => Ok(handler.stop()),
-    }
+    let (_, read, _spent) = from.pop_known().open();
+    Err(read)
 }
 
 // How it ended where a side worked. Where none did the first round comes back; others that were read behind it are
@@ -111,7 +101,7 @@ fn ending<N: Naming, T, E, H: RoundHandler<T, E>>(
     end: Option<E>,
     waiting: usize,
     handler: &H,
-    from: &mut Consumer<Option<Parcel>, Global, Fits<N>>,
+    from: &mut Consumer<Parcel, Global, Fits<N>>,
 ) -> Result<E, RoundRead>
     requires waiting { waiting ≡ length (known_items from.old) }
     ensures some { IfSome end (λ e. (result ≡ Ok e) × (known_items from.new ≡ known_items from.old)) }
@@ -124,7 +114,7 @@ fn ending<N: Naming, T, E, H: RoundHandler<T, E>>(
 }
 
 // Handles what is left, of which the first round was read and was full, by two sides, between which blocks come home by
-// these ways. That round comes back where there is no memory or no thread for two: then nothing else was read or done.
+// this way. That round comes back where there is no memory or no thread for two: then nothing else was read or done.
 fn handle_named<
     N: Naming + Send,
     R: Threads + Wait + Sync,
@@ -142,13 +132,13 @@ fn handle_named<
     read: RoundRead,
     handler: &H,
     into: &mut T,
-    ways: Ways,
+    way: Way,
 ) -> Result<E, RoundRead>
     requires out { IsOut (H.ready (options_of rounds.old) rounds.old.keep) rounds.old read (place_of reader.old)
         into.old }
     requires full { read.end ≡ RoundEnd.Full }
     requires named { rounds.old.blocks ≡ N.blocks }
-    requires ways { IsOfRing N.ring ways.tokens × (arc_value ways.taker.lists ≡ N.lists) }
+    requires way { arc_value way.taker.lists ≡ N.lists }
     ensures same_source { SameLoan reader.old reader.new }
     ensures handled { MayBeHandled (H.did handler.now (options_of rounds.old)) H.stopped
         (H.ready (options_of rounds.old) rounds.old.keep) rounds.old rounds.new read
@@ -159,52 +149,45 @@ fn handle_named<
     let _ = rounds.taken();
     let intake = &mut rounds.intake;
     let bench = &mut rounds.bench;
-    let Ok((mut out, mut from, shelf, mut kept, shelves)) = prepare::<N>(alloc, bench) else {
+    let Ok((mut out, mut from, mut list, next, spent)) = prepare::<N>(alloc, bench) else {
         return Err(read);
     };
     let away = Away::new(read.round.blocks(), read.round.spares());
-    send_first(rt, &mut out, read, shelf);
-    let Ways {
-        mut told,
-        tokens,
-        taker,
-        giver,
-        bell,
-    } = ways;
+    send_first(rt, &mut out, read, next);
+    let Way { taker, giver, bell } = way;
     let mut giver = Some(giver);
     let bells = Bells::new(bell);
     let post = Sleeper::<'_, R, N>::new(rt, &bells);
     let mut supply = Reading {
-        desk: Desk::new(post, blocks, away, tokens, shelves, taker),
+        desk: Desk::new(post, blocks, away, spent, taker),
         out,
     };
     let end = run_sides(
         rt,
+        alloc,
         works,
         intake,
         bench,
-        &mut kept,
+        &mut list,
         &mut giver,
         reader,
         handler,
         into,
         &mut supply,
         &mut from,
-        &mut told,
         &bells,
     );
     let Reading { desk, mut out } = supply;
     let waiting = from.slots_beside(&mut out);
-    let (mut tokens, shelves, taker) = desk.close();
-    tokens.slots_beside(&mut told);
+    let taker = desk.close();
     let ended = ending::<N, T, E, H>(end, waiting, handler, &mut from);
-    bring_home(rt, intake, &mut tokens, kept, shelves, taker, giver);
+    bring_home(rt, intake, list, taker, giver);
     drop_parcels(rounds, &mut from);
     ended
 }
 
-// The same, by a call that picks how many blocks there are and which ring and pool these are.
-fn handle_ringed<R: Threads + Wait + Sync, W: Works, S: Source + Send, T, E, H: RoundHandler<T, E>>(
+// The same, by a call that picks how many blocks there are and which pool this is.
+fn handle_picked<R: Threads + Wait + Sync, W: Works, S: Source + Send, T, E, H: RoundHandler<T, E>>(
     rt: &R,
     alloc: Global,
     works: &mut W,
@@ -213,7 +196,7 @@ fn handle_ringed<R: Threads + Wait + Sync, W: Works, S: Source + Send, T, E, H: 
     read: RoundRead,
     handler: &H,
     into: &mut T,
-    ways: Ways,
+    way: Way,
 ) -> Result<E, RoundRead>
     requires out { IsOut (H.ready (options_of rounds.old) rounds.old.keep) rounds.old read (place_of reader.old)
         into.old }
@@ -225,7 +208,7 @@ fn handle_ringed<R: Threads + Wait + Sync, W: Works, S: Source + Send, T, E, H: 
         into.old into.new result }
 {
     handle_named::<Brand, R, W, S, T, E, H>(
-        rt, alloc, works, rounds, reader, read, handler, into, ways,
+        rt, alloc, works, rounds, reader, read, handler, into, way,
     )
 }
 
@@ -250,10 +233,10 @@ fn handle_on<R: Threads + Wait + Sync, W: Works, S: Source + Send, T, E, H: Roun
         (reader_at S.left S.faults reader.old rounds.old.taken) (reader_at S.left S.faults reader.new rounds.new.taken)
         into.old into.new result }
 {
-    let Ok(ways) = open_ways(alloc) else {
+    let Ok(way) = open_way(alloc) else {
         return handle_here(works, rounds, reader, read, handler, into);
     };
-    match handle_ringed(rt, alloc, works, rounds, reader, read, handler, into, ways) {
+    match handle_picked(rt, alloc, works, rounds, reader, read, handler, into, way) {
         Ok(end) => end,
         Err(back) => handle_here(works, rounds, reader, back, handler, into),
     }

@@ -6,23 +6,21 @@ ghost use Rattle.block_pool.specs.Listed.{blocks_in};
 ghost use Rattle.block_pool.specs.PoolState.{home, weighed};
 ghost use Rattle.rtrb.specs.Ring.{known_items};
 ghost use Rattle.block_supply.specs.Lists.{HasGiver, weights_listed};
-ghost use Rattle.crossing.specs.Tokens.{homes_of, shelved, weights_back, weights_shelved};
 ghost use Rattle.pipeline.specs.Parcels.{blocks_of, weights_sent};
 
 use crate::parcel::{Fits, Parcel};
 use block_pool::{Giver, Pool};
 use block_supply::Taker;
-use crossing::{Naming, Token};
+use crossing::Naming;
 use rounds::{Intake, RoundRead, Rounds, bring_lists};
 use rtrb::Consumer;
 use std::alloc::Global;
-use std::collections::VecDeque;
 use std::sync::Wait;
 
 /// The rounds that nobody worked.
 pub(crate) fn drop_parcels<N: Naming>(
     rounds: &mut Rounds,
-    from: &mut Consumer<Option<Parcel>, Global, Fits<N>>,
+    from: &mut Consumer<Parcel, Global, Fits<N>>,
 )
     requires room { rounds.old.home + blocks_of (known_items from.old) ≤ rounds.old.blocks }
     ensures home { rounds.new ≡ record rounds.old {
@@ -33,79 +31,34 @@ pub(crate) fn drop_parcels<N: Naming>(
         ≡ weighed h rounds.old.stock + weights_sent h (known_items from.old) }
 {
     while from.cached_slots() > 0 {
-        if let Some(parcel) = from.pop_known() {
-            let (_, RoundRead { round, end: _ }, _shelf) = parcel.open();
-            rounds.drop_round(round);
-        }
+        let (_, RoundRead { round, end: _ }, _spent) = from.pop_known().open();
+        rounds.drop_round(round);
     }
 }
 
-// The shelves that nobody received.
-fn bring_tokens(intake: &mut Intake, tokens: &mut Consumer<Token>)
-    requires room { intake.old.home + homes_of (known_items tokens.old) ≤ intake.old.blocks }
-    ensures home { intake.new ≡ record intake.old {
-      home = intake.old.home + homes_of (known_items tokens.old);
-      stock = intake.new.stock;
-    } }
-    ensures named { (h : ℕ → ℕ) → weighed h intake.new.stock
-        ≡ weighed h intake.old.stock + weights_back h (known_items tokens.old) }
-{
-    while tokens.cached_slots() > 0 {
-        let Token { shelf, goes: _ } = tokens.pop_known();
-        intake.bring_in(shelf);
-    }
-}
-
-// All blocks on shelves come home, between the sides or here.
-fn bring_shelves(
-    intake: &mut Intake,
-    tokens: &mut Consumer<Token>,
-    kept: Pool,
-    shelves: VecDeque<Pool>,
-)
-    requires room { intake.old.home + homes_of (known_items tokens.old) + home kept + shelved shelves.items
-        ≤ intake.old.blocks }
-    ensures home { intake.new ≡ record intake.old {
-      home = intake.old.home + homes_of (known_items tokens.old) + home kept + shelved shelves.items;
-      stock = intake.new.stock;
-    } }
-    ensures named { (h : ℕ → ℕ) → weighed h intake.new.stock ≡ weighed h intake.old.stock
-        + weights_back h (known_items tokens.old) + weighed h kept.blocks + weights_shelved h shelves.items }
-{
-    let mut shelves = shelves;
-    bring_tokens(intake, tokens);
-    intake.bring_in(kept);
-    while let Some(shelf) = shelves.pop_front() {
-        intake.bring_in(shelf);
-    }
-}
-
-/// All blocks come home that lie on shelves and in lists, wherever these are.
+/// All blocks come home that lie in lists, wherever these are: in the pool of lists, or with the side that worked.
 pub(crate) fn bring_home<R: Wait>(
     rt: &R,
     intake: &mut Intake,
-    tokens: &mut Consumer<Token>,
-    kept: Pool,
-    shelves: VecDeque<Pool>,
+    list: Pool,
     taker: Taker,
     giver: Option<Giver>,
 )
     requires giver { HasGiver (arc_value taker.lists) giver }
-    requires room { intake.old.home + homes_of (known_items tokens.old) + home kept + shelved shelves.items
-        + home taker.left + given_by giver ≤ intake.old.blocks + blocks_in taker.pass.taken }
+    requires room { intake.old.home + home list + home taker.left + given_by giver
+        ≤ intake.old.blocks + blocks_in taker.pass.taken }
     ensures same { intake.new ≡ record intake.old {
       home = intake.new.home;
       stock = intake.new.stock;
       empties = intake.new.empties;
     } }
     ensures empties { intake.new.empties ≡ min (intake.old.empties + taker.pass.empties) (2 ^ 64 - 1) }
-    ensures home { intake.new.home + blocks_in taker.pass.taken ≡ intake.old.home
-        + homes_of (known_items tokens.old) + home kept + shelved shelves.items + home taker.left + given_by giver }
+    ensures home { intake.new.home + blocks_in taker.pass.taken
+        ≡ intake.old.home + home list + home taker.left + given_by giver }
     ensures named { (h : ℕ → ℕ) → weighed h intake.new.stock + weights_listed h taker.pass.taken
-        ≡ weighed h intake.old.stock + weights_back h (known_items tokens.old) + weighed h kept.blocks
-        + weights_shelved h shelves.items + weighed h taker.left.blocks + weights_given giver h }
-    ensures least { intake.old.home + home kept ≤ intake.new.home }
+        ≡ weighed h intake.old.stock + weighed h list.blocks + weighed h taker.left.blocks + weights_given giver h }
+    ensures least { intake.old.home + home list ≤ intake.new.home }
 {
     bring_lists(rt, intake, taker, giver);
-    bring_shelves(intake, tokens, kept, shelves);
+    intake.bring_in(list);
 }

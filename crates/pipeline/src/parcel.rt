@@ -7,24 +7,25 @@ use rounds::RoundRead;
 use rtrb::Protocol;
 use std::marker::PhantomData;
 
-/// A round that was read, its number, and an empty shelf for its blocks. One that is dropped frees its blocks.
+/// A round that was read, its number, and an emptied list, whose memory goes back to who gives lists. One that is
+/// dropped frees its blocks.
 pub(crate) struct Parcel {
     pub(crate) number: u64,
     pub(crate) read: RoundRead,
-    pub(crate) shelf: Pool,
+    pub(crate) spent: Option<Pool>,
 }
 
 impl Parcel {
     /// What was sent.
-    pub(crate) fn open(self) -> (u64, RoundRead, Pool)
-        ensures same { (result.0 ≡ self.number) × (result.1 ≡ self.read) × (result.2 ≡ self.shelf) }
+    pub(crate) fn open(self) -> (u64, RoundRead, Option<Pool>)
+        ensures same { (result.0 ≡ self.number) × (result.1 ≡ self.read) }
     {
         let Parcel {
             number,
             read,
-            shelf,
+            spent,
         } = self;
-        (number, read, shelf)
+        (number, read, spent)
     }
 }
 
@@ -33,20 +34,19 @@ impl Drop for Parcel {
         let Parcel {
             number: _,
             read: RoundRead { round, end: _ },
-            shelf: _shelf,
+            spent: _spent,
         } = self;
         round.discard();
     }
 }
 
-/// Rounds come in turn, and each fits the blocks and has an empty shelf with places for all of them.
+/// Rounds come in turn, and each fits the blocks.
 pub(crate) struct Fits<N: Naming> {
     of: PhantomData<N>,
 }
 
-impl<N: Naming> Protocol<Option<Parcel>> for Fits<N> {
-    ghost use Rattle.std.specs.Prelude.{IfSome};
+impl<N: Naming> Protocol<Parcel> for Fits<N> {
     ghost use Rattle.pipeline.specs.Parcels.{IsFit};
 
-    ghost allows = { λ before x. IfSome x (IsFit N.blocks before) };
+    ghost allows = { λ before x. IsFit N.blocks before x };
 }

@@ -1,5 +1,5 @@
 //! The side that reads and the side that works.
-ghost use Rattle.std.specs.Prelude.{◌≡◌};
+ghost use Rattle.std.specs.Prelude.{◌≡◌, Some};
 ghost use Rattle.pcap_io.specs.Readers.{place_of, SameLoan};
 ghost use Rattle.rounds.specs.Benches.{options_at};
 ghost use Rattle.rounds.specs.Reads.{is_full as is_full_end, reader_at};
@@ -8,13 +8,13 @@ ghost use Rattle.pipeline.specs.Handled.{HasWorked, MayWork};
 ghost use Rattle.pipeline.specs.Reads.{HasRead, MayRead};
 
 use crate::parcel::{Fits, Parcel};
+use crate::returning::{give_back, make_ready, next_round};
 use block_pool::{Giver, Pool};
-use core::mem::replace;
-use crossing::{Bells, Desk, Naming, Post, Token, receive, send, send_home};
+use crossing::{Bells, Desk, Naming, Post, send};
 use lanes::Works;
 use off_io::Source;
 use pcap_io::CaptureReader;
-use rounds::{Bench, Intake, RoundEnd, RoundHandler, give_list};
+use rounds::{Bench, Intake, RoundEnd, RoundHandler};
 use rtrb::{Consumer, Producer};
 use std::alloc::Global;
 use std::sync::Wait;
@@ -24,7 +24,7 @@ use std::thread::{Threads, join_mut};
 #[derive(Drop)]
 pub(crate) struct Reading<W: Post + Drop, N: Naming> {
     pub(crate) desk: Desk<W>,
-    pub(crate) out: Producer<Option<Parcel>, Global, Fits<N>>,
+    pub(crate) out: Producer<Parcel, Global, Fits<N>>,
 }
 
 /// Whether another round may follow.
@@ -37,14 +37,15 @@ pub(crate) fn is_full(end: RoundEnd) -> bool
     }
 }
 
-// Sends each round that it reads behind the first one, which was sent, as long as there are shelves.
+// Sends each round that it reads behind the first one, which was sent, up to one that isn't full, or until the other
+// side has ended.
 fn read_side<N: Naming, R: Wait, P: Post + Drop, S: Source>(
     rt: &R,
     reader: &mut CaptureReader<'_, S>,
     intake: &mut Intake,
     supply: &mut Reading<P, N>,
 )
-    requires reads { MayRead N.blocks P.blocks intake.old (place_of reader.old) (sent supply.old.out) }
+    requires reads { MayRead N.blocks intake.old (place_of reader.old) (sent supply.old.out) }
     ensures ring { SameProducer supply.old.out supply.new.out }
     ensures same_source { SameLoan reader.old reader.new }
     ensures read { HasRead intake.old intake.new (reader_at S.left S.faults reader.old intake.old.taken)
@@ -56,24 +57,20 @@ fn read_side<N: Naming, R: Wait, P: Post + Drop, S: Source>(
     }
     let mut number = 1;
     for _ in rt.forever() {
+        supply.desk.await_place(&mut supply.out);
         intake.bring_more(&mut supply.desk);
         if supply.desk.has_stopped() {
             return;
         }
-        let Some(shelf) = supply.desk.pick() else {
-            send(rt, &mut supply.out, None);
-            supply.desk.wake();
-            return;
-        };
         let read = intake.read_beside(rt, reader, &mut supply.desk);
         let end = read.end;
         supply.desk.lend(read.round.blocks(), read.round.spares());
         let parcel = Parcel {
             number,
             read,
-            shelf,
+            spent: supply.desk.pick(),
         };
-        send(rt, &mut supply.out, Some(parcel));
+        send(rt, &mut supply.out, parcel);
         supply.desk.wake();
         if !is_full(end) {
             return;
@@ -83,52 +80,74 @@ fn read_side<N: Naming, R: Wait, P: Post + Drop, S: Source>(
     unreachable!()
 }
 
-// Handles each round that comes. What isn't given while it is worked is given once it was written, and a token tells
-// that it has ended; what finds no place goes back with that. Those of the last one are kept here. `None` where no
-// reader has begun.
-fn work_side<N: Naming, R: Wait, W: Works, T, E, H: RoundHandler<T, E>>(
+// Handles each round that comes, until one ends it. What isn't given while it is worked is given once it was written,
+// as one list; what finds no place stays, and what the last one leaves.
+fn work_rounds<N: Naming, R: Wait, W: Works, T, E, H: RoundHandler<T, E>>(
     rt: &R,
+    alloc: Global,
     works: &mut W,
     bench: &mut Bench,
-    kept: &mut Pool,
+    list: &mut Pool,
     giver: &mut Option<Giver>,
     handler: &H,
     into: &mut T,
-    from: &mut Consumer<Option<Parcel>, Global, Fits<N>>,
-    told: &mut Producer<Token>,
+    from: &mut Consumer<Parcel, Global, Fits<N>>,
+    bells: &Bells,
+) -> E
+    requires works { MayWork (H.ready (options_at bench.old) bench.old.keep) N.blocks bench.old list.old giver.old
+        (received from.old) into.old }
+    ensures ring { SameConsumer from.old from.new }
+    ensures worked { HasWorked (H.did handler.now (options_at bench.old)) H.stopped
+        (H.ready (options_at bench.old) bench.old.keep) bench.old bench.new list.new giver.old giver.new into.old
+        into.new (received from.new) (Some result) }
+{
+    for _ in rt.forever() {
+        let Some(parcel) = next_round(rt, alloc, giver, list, from, bells) else {
+            return handler.stop();
+        };
+        bells.reader.wake();
+        let (number, read, spent) = parcel.open();
+        match handler.handle(works, bench, list, giver, read, number, into) {
+            Some(end) => return end,
+            None => {}
+        }
+        // Where there is no memory for what the next round leaves, no more rounds are wanted.
+        let Ok(empty) = make_ready(alloc, bench, spent) else {
+            return handler.stop();
+        };
+        give_back(rt, giver, list, empty);
+    }
+    unreachable!()
+}
+
+// The same, where a reader has begun, which is told then that no more rounds are wanted. `None` where none has.
+fn work_side<N: Naming, R: Wait, W: Works, T, E, H: RoundHandler<T, E>>(
+    rt: &R,
+    alloc: Global,
+    works: &mut W,
+    bench: &mut Bench,
+    list: &mut Pool,
+    giver: &mut Option<Giver>,
+    handler: &H,
+    into: &mut T,
+    from: &mut Consumer<Parcel, Global, Fits<N>>,
     bells: &Bells,
 ) -> Option<E>
-    requires works { MayWork (H.ready (options_at bench.old) bench.old.keep) N.blocks bench.old kept.old giver.old
-        (received from.old) (sent told.old) into.old }
-    ensures rings { SameConsumer from.old from.new × SameProducer told.old told.new }
+    requires works { MayWork (H.ready (options_at bench.old) bench.old.keep) N.blocks bench.old list.old giver.old
+        (received from.old) into.old }
+    ensures ring { SameConsumer from.old from.new }
     ensures worked { HasWorked (H.did handler.now (options_at bench.old)) H.stopped
-        (H.ready (options_at bench.old) bench.old.keep) bench.old bench.new kept.new giver.old giver.new into.old
-        into.new (received from.new) (sent told.new) result }
+        (H.ready (options_at bench.old) bench.old.keep) bench.old bench.new list.new giver.old giver.new into.old
+        into.new (received from.new) result }
 {
     if !bells.has_begun() {
         return None;
     }
-    for _ in rt.forever() {
-        let Some(parcel) = receive(rt, from, &bells.worker) else {
-            return Some(handler.stop());
-        };
-        let (number, read, mut shelf) = parcel.open();
-        match handler.handle(works, bench, &mut shelf, giver, read, number, into) {
-            Some(end) => {
-                send_home(rt, replace(kept, shelf), false, told, &bells.reader);
-                return Some(end);
-            }
-            None => {}
-        }
-        // Where there is no memory for what the next round gives back, no more rounds are wanted.
-        if bench.make_room().is_err() {
-            send_home(rt, replace(kept, shelf), false, told, &bells.reader);
-            return Some(handler.stop());
-        }
-        give_list(rt, giver, &mut shelf);
-        send_home(rt, shelf, true, told, &bells.reader);
-    }
-    unreachable!()
+    let end = work_rounds(
+        rt, alloc, works, bench, list, giver, handler, into, from, bells,
+    );
+    bells.end();
+    Some(end)
 }
 
 /// Both sides at once, the one that reads in a thread of its own.
@@ -144,36 +163,35 @@ pub(crate) fn run_sides<
     H: RoundHandler<T, E>,
 >(
     rt: &'a R,
+    alloc: Global,
     works: &'a mut W,
     intake: &'a mut Intake,
     bench: &'a mut Bench,
-    kept: &'a mut Pool,
+    list: &'a mut Pool,
     giver: &'a mut Option<Giver>,
     reader: &'a mut CaptureReader<'_, S>,
     handler: &'a H,
     into: &'a mut T,
     supply: &'a mut Reading<P, N>,
-    from: &'a mut Consumer<Option<Parcel>, Global, Fits<N>>,
-    told: &'a mut Producer<Token>,
+    from: &'a mut Consumer<Parcel, Global, Fits<N>>,
     bells: &'a Bells,
 ) -> Option<E>
-    requires reads { MayRead N.blocks P.blocks intake.old (place_of reader.old) (sent supply.old.out) }
-    requires works { MayWork (H.ready (options_at bench.old) bench.old.keep) N.blocks bench.old kept.old giver.old
-        (received from.old) (sent told.old) into.old }
-    ensures rings { SameProducer supply.old.out supply.new.out × SameConsumer from.old from.new
-        × SameProducer told.old told.new }
+    requires reads { MayRead N.blocks intake.old (place_of reader.old) (sent supply.old.out) }
+    requires works { MayWork (H.ready (options_at bench.old) bench.old.keep) N.blocks bench.old list.old giver.old
+        (received from.old) into.old }
+    ensures rings { SameProducer supply.old.out supply.new.out × SameConsumer from.old from.new }
     ensures same_source { SameLoan reader.old reader.new }
     ensures read { HasRead intake.old intake.new (reader_at S.left S.faults reader.old intake.old.taken)
         (reader_at S.left S.faults reader.new intake.new.taken) (sent supply.old.out) (sent supply.new.out)
         supply.old.desk supply.new.desk }
     ensures worked { HasWorked (H.did handler.now (options_at bench.old)) H.stopped
-        (H.ready (options_at bench.old) bench.old.keep) bench.old bench.new kept.new giver.old giver.new into.old
-        into.new (received from.new) (sent told.new) result }
+        (H.ready (options_at bench.old) bench.old.keep) bench.old bench.new list.new giver.old giver.new into.old
+        into.new (received from.new) result }
 {
     let ((), end) = join_mut(
         rt,
         &mut ||
-            requires reads { MayRead N.blocks P.blocks intake.now (place_of reader.now) (sent supply.now.out) }
+            requires reads { MayRead N.blocks intake.now (place_of reader.now) (sent supply.now.out) }
             ensures ring { SameProducer supply.entry.now.out supply.exit.now.out }
             ensures same_source { SameLoan reader.entry.now reader.exit.now }
             ensures read { HasRead intake.entry.now intake.exit.now
@@ -182,16 +200,16 @@ pub(crate) fn run_sides<
                 (sent supply.entry.now.out) (sent supply.exit.now.out) supply.entry.now.desk supply.exit.now.desk }
         { read_side(rt, reader, intake, supply) },
         &mut || -> Option<E>
-            requires works { MayWork (H.ready (options_at bench.now) bench.now.keep) N.blocks bench.now kept.now
-                giver.now (received from.now) (sent told.now) into.now }
-            ensures rings { SameConsumer from.entry.now from.exit.now × SameProducer told.entry.now told.exit.now }
+            requires works { MayWork (H.ready (options_at bench.now) bench.now.keep) N.blocks bench.now list.now
+                giver.now (received from.now) into.now }
+            ensures ring { SameConsumer from.entry.now from.exit.now }
             ensures worked { HasWorked (H.did handler.entry.now (options_at bench.entry.now)) H.stopped
                 (H.ready (options_at bench.entry.now) bench.entry.now.keep) bench.entry.now bench.exit.now
-                kept.exit.now giver.entry.now giver.exit.now into.entry.now into.exit.now (received from.exit.now)
-                (sent told.exit.now) result }
+                list.exit.now giver.entry.now giver.exit.now into.entry.now into.exit.now (received from.exit.now)
+                result }
         {
             work_side(
-                rt, works, bench, kept, giver, handler, into, from, told, bells,
+                rt, alloc, works, bench, list, giver, handler, into, from, bells,
             )
         },
     );

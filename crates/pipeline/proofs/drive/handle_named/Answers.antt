@@ -1,4 +1,4 @@
-use Rattle.std.proofs.Common.{◌≡◌, ℕ, ◌∙◌, ◌+◌, ◌^◌, ◌<◌, ◌≤◌, ◌++◌, Option, Some, List, ap, sym, subst, refl, length}
+use Rattle.std.proofs.Common.{◌≡◌, ℕ, ◌∙◌, ◌+◌, ◌^◌, ◌<◌, ◌≤◌, ◌++◌, Some, List, ap, sym, subst, refl, length}
 use Rattle.std.specs.Arc.{arc_value}
 use Rattle.block_pool.specs.Giving.{given_by, weights_given}
 use Rattle.block_pool.specs.Listed.{blocks_in}
@@ -13,10 +13,8 @@ use Rattle.rounds.specs.declared.round.RoundRead.{RoundRead}
 use Rattle.pipeline.specs.declared.parcel.Parcel.{Parcel}
 use Rattle.pipeline.specs.Handled.{blocks_out, weights_out}
 use Rattle.block_supply.specs.Lists.{HasGiver, weights_listed}
-use Rattle.crossing.specs.Tokens.{homes_of, shelved, weights_back, weights_shelved}
 use Rattle.pipeline.specs.Parcels.{blocks_of, weights_sent}
 use Rattle.rounds.specs.Reads.{reader_at}
-use Rattle.crossing.proofs.Shelves.{homes_append, weights_back_append}
 use Rattle.pipeline.proofs.Rows.{blocks_append, sum_of_both, weights_sent_append}
 use Rattle.pipeline.proofs.Counting.{all_counted, all_out, all_weighed, few_home, room_home, room_later, room_left, whole_home}
 use Rattle.rounds.proofs.Going.{counted_as, ready_as}
@@ -26,25 +24,21 @@ use Rattle.pipeline.proofs.drive.handle_named.Given as given
 use Rattle.pipeline.proofs.drive.handle_named.Goals as goal
 use Rattle.pipeline.proofs.drive.handle_named.Goals.{After-ending-ended}
 
--- where all blocks are counted: home, on shelves, in rounds that nobody worked, or in the round that comes back
+-- where all blocks are counted: home, in lists, in rounds that nobody worked, or in the round that comes back
 counted : (g : given.Over) (c : After-ending-ended g)
-    → c.run_sides-end.new.intake.home + homes_of (known_items c.slots_beside.new.self) + home c.run_sides-end.new.kept + shelved c.close-tokens.result.1.items + home c.close-tokens.result.2.left
-    + given_by c.run_sides-end.new.giver + blocks_of (known_items c.ending-ended.new.from) + blocks_out c.ending-ended.result ≡ c.args.rounds.now.blocks + blocks_in c.close-tokens.result.2.pass.taken
+    → c.run_sides-end.new.intake.home + home c.run_sides-end.new.list + home c.close-taker.result.left + given_by c.run_sides-end.new.giver + blocks_of (known_items c.ending-ended.new.from)
+    + blocks_out c.ending-ended.result ≡ c.args.rounds.now.blocks + blocks_in c.close-taker.result.pass.taken
 counted g c =
     let a = c.slots_beside-waiting.ensures in
-    let b = c.slots_beside.ensures in
-    all_counted c.run_sides-end.new.intake.home c.rounds.inside.intake.home (blocks_of (sent c.send_first.new.out)) (home c.run_sides-end.new.kept) (given_by c.run_sides-end.new.giver)
-    (blocks_of (received c.run_sides-end.new.from)) (blocks_of (known_items c.ending-ended.new.from)) (blocks_out c.ending-ended.result) (homes_of (known_items c.slots_beside.new.self))
-    (shelved c.new.result.shelves.items) (home c.new.result.taker.left) c.run_sides-end.ensures.read.sum c.run_sides-end.ensures.worked.each c.run_sides-end.new.supply.desk.counted c.run_sides-end.new.supply.desk.taker.counted
-    (ap (λ t. homes_of (received t)) c.new.ensures.same.0 ∙ ap homes_of c.args.ways.unused.1) (ap (λ t. blocks_in t.pass.taken) c.new.ensures.same.2 ∙ ap blocks_in c.args.ways.untaken.0)
-    (ap blocks_in c.args.ways.ungiven.1)
+    all_counted c.run_sides-end.new.intake.home c.rounds.inside.intake.home (blocks_of (sent c.send_first.new.out)) (home c.run_sides-end.new.list) (given_by c.run_sides-end.new.giver)
+    (blocks_of (received c.run_sides-end.new.from)) (blocks_of (known_items c.ending-ended.new.from)) (blocks_out c.ending-ended.result) (home c.new.result.taker.left)
+    c.run_sides-end.ensures.read.sum c.run_sides-end.ensures.worked.each c.run_sides-end.new.supply.desk.taker.counted
+    (ap (λ t. blocks_in t.pass.taken) c.new.ensures.same ∙ ap blocks_in c.args.way.untaken.0) (ap blocks_in c.args.way.ungiven.1)
     (sum_of_both blocks_of blocks_append (received c.run_sides-end.new.from) (received c.slots_beside-waiting.new.self) (known_items c.slots_beside-waiting.new.self) _ _ a.looked.1 a.fifo a.producer.1)
     (left_out g.H.RoundHandler.stopped c.run_sides-end.result c.ending-ended.result (known_items c.slots_beside-waiting.new.self) (known_items c.ending-ended.new.from) c.ending-ended.ensures.some
     c.ending-ended.ensures.none)
-    (sum_of_both homes_of homes_append (received c.run_sides-end.new.supply.desk.tokens) (received c.slots_beside.new.self) (known_items c.slots_beside.new.self) _ _
-    (b.looked.1 ∙ ap received c.close-tokens.ensures.same.0) b.fifo b.producer.1)
-    (ap (λ t. shelved t.items) c.close-tokens.ensures.same.1) (ap (λ t. home t.left) c.close-tokens.ensures.same.2) (ap (λ t. blocks_in t.pass.taken) c.close-tokens.ensures.same.2)
-    ∙ ap (λ (n : ℕ). n + blocks_in c.close-tokens.result.2.pass.taken)
+    (ap (λ t. home t.left) c.close-taker.ensures.same) (ap (λ t. blocks_in t.pass.taken) c.close-taker.ensures.same)
+    ∙ ap (λ (n : ℕ). n + blocks_in c.close-taker.result.pass.taken)
     (all_out (ap (λ (s : RoundsState). s.home) c.rounds.view_is) (ap blocks_of c.send_first.ensures.sent.1) (ap (λ (x : RoundRead). x.round.blocks) c.send_first.ensures.sent.2) c.requires.out.out)
 
 pub run_sides-end-requires-clause-reads : goal.run_sides-end-requires-clause-reads
@@ -54,7 +48,7 @@ run_sides-end-requires-clause-reads g c κs within =
     record {
       ready = on.ready;
       link = on.link;
-      named = (ap (λ (s : RoundsState). s.blocks) c.rounds.view_is ∙ c.requires.named, refl);
+      named = ap (λ (s : RoundsState). s.blocks) c.rounds.view_is ∙ c.requires.named;
       first = (
         one.0,
         one.1,
@@ -67,15 +61,15 @@ pub run_sides-end-requires-clause-works : goal.run_sides-end-requires-clause-wor
 run_sides-end-requires-clause-works g c κs within =
     let p = c.prepare.ensures in
     let r = c.in-Ok.ensures in
-    let w = c.args.ways in
+    let w = c.args.way in
     let first = c.args.rounds.now in
     let view = c.rounds.view_is in
     record {
       named = ap (λ (b : BenchState). b.blocks) p.same ∙ c.rounds.invariant.blocks ∙ ap (λ (s : RoundsState). s.blocks) view ∙ c.requires.named;
       room = r.room;
-      empty = r.last;
+      empty = r.list;
       lent = w.ungiven.2;
-      none = (r.ring.2, w.unused.0);
+      none = r.ring.2;
       start = ready_as (g.H.RoundHandler.did c.args.handler.now) g.H.RoundHandler.stopped g.H.RoundHandler.ready (options_at c.prepare.new.bench) (options_of first) c.prepare.new.bench.keep first.keep 0 c.args.into.now
           (sym (ap options_at p.same ∙ ap options_of view)) (sym (ap (λ (b : BenchState). b.keep) p.same ∙ ap (λ (s : RoundsState). s.keep) view)) c.requires.out.start;
     }
@@ -84,14 +78,14 @@ pub bring_home-requires : goal.bring_home-requires
 bring_home-requires g c =
     let r = c.run_sides-end.ensures.read in
     let k = c.run_sides-end.ensures.worked in
-    let w = c.args.ways in
+    let w = c.args.way in
     let d = c.run_sides-end.new.supply.desk in
     record {
       giver = subst (λ (l : SharedState). HasGiver l c.run_sides-end.new.giver)
-          (c.requires.ways.1 ∙ sym d.pooled ∙ sym (ap (λ t. arc_value t.lists) c.close-tokens.ensures.same.2))
+          (c.requires.way ∙ sym d.pooled ∙ sym (ap (λ t. arc_value t.lists) c.close-taker.ensures.same))
           (giver_back (arc_value w.taker.lists) (Some w.giver) c.run_sides-end.new.giver
           (record { it = w.giver; is = refl; pool_is = w.same; parts = w.ungiven.0; none = w.ungiven.2 }) k.lends);
-      room = room_home (blocks_of (known_items c.ending-ended.new.from)) (blocks_out c.ending-ended.result) (blocks_in c.close-tokens.result.2.pass.taken) (counted g (goal.at.bring_home-requires g c).After-ending-ended) (r.same.0 ∙ ap (λ (s : RoundsState). s.blocks) c.rounds.view_is);
+      room = room_home (blocks_of (known_items c.ending-ended.new.from)) (blocks_out c.ending-ended.result) (blocks_in c.close-taker.result.pass.taken) (counted g (goal.at.bring_home-requires g c).After-ending-ended) (r.same.0 ∙ ap (λ (s : RoundsState). s.blocks) c.rounds.view_is);
     }
 
 abbrev lent : IntakeState → BenchState → RoundsState
@@ -108,14 +102,14 @@ pub invariant_of-rounds-2 : goal.invariant_of-rounds-2
 invariant_of-rounds-2 g c =
     let k = c.run_sides-end.ensures.worked in
     let f = c.bring_home.ensures in
-    one_again c.rounds.inside.intake c.run_sides-end.new.intake c.bring_home.new.intake c.rounds.inside.bench c.prepare.new.bench c.run_sides-end.new.bench (home c.run_sides-end.new.kept)
+    one_again c.rounds.inside.intake c.run_sides-end.new.intake c.bring_home.new.intake c.rounds.inside.bench c.prepare.new.bench c.run_sides-end.new.bench (home c.run_sides-end.new.list)
     c.rounds.invariant c.prepare.ensures.same c.run_sides-end.ensures.read.same k.same k.room f.same f.least
 
 pub drop_parcels-requires : goal.drop_parcels-requires
 drop_parcels-requires g c =
     let f = c.bring_home.ensures in
     record {
-      room = room_left c.bring_home.new.intake.home (blocks_in c.close-tokens.result.2.pass.taken) (blocks_of (known_items c.ending-ended.new.from)) (blocks_out c.ending-ended.result) f.home (counted g (goal.at.drop_parcels-requires g c).After-ending-ended)
+      room = room_left c.bring_home.new.intake.home (blocks_in c.close-taker.result.pass.taken) (blocks_of (known_items c.ending-ended.new.from)) (blocks_out c.ending-ended.result) f.home (counted g (goal.at.drop_parcels-requires g c).After-ending-ended)
           (ap (λ (i : IntakeState). i.blocks) f.same ∙ c.run_sides-end.ensures.read.same.0 ∙ ap (λ (s : RoundsState). s.blocks) c.rounds.view_is);
     }
 
@@ -124,9 +118,8 @@ returns-clause-handled g c =
     let r = c.run_sides-end.ensures.read in
     let k = c.run_sides-end.ensures.worked in
     let a = c.slots_beside-waiting.ensures in
-    let b = c.slots_beside.ensures in
     let e = c.ending-ended.ensures in
-    let w = c.args.ways in
+    let w = c.args.way in
     let p = c.prepare.ensures in
     let f = c.bring_home.ensures in
     let d = c.drop_parcels.ensures.home in
@@ -141,17 +134,13 @@ returns-clause-handled g c =
     let keep = ap (λ (b : BenchState). b.keep) p.same ∙ ap (λ (s : RoundsState). s.keep) view in
     let named : (h : ℕ → ℕ) → weighed h new.stock + weights_out c.ending-ended.result h ≡ weighed h first.stock + weights_of c.args.read.round h =
     λ h.
-    all_weighed (weighed h c.run_sides-end.new.intake.stock) (weighed h c.run_sides-end.new.kept.blocks) (weights_given c.run_sides-end.new.giver h)
-    (weights_sent h (received c.run_sides-end.new.from)) (weights_sent h left) (weights_out c.ending-ended.result h) (weights_back h (known_items c.slots_beside.new.self))
-    (weights_shelved h c.new.result.shelves.items) (weighed h c.new.result.taker.left.blocks) (weighed h c.bring_home.new.intake.stock) (r.named h) (k.each_named h) (c.run_sides-end.new.supply.desk.weighs h) (c.run_sides-end.new.supply.desk.taker.weighs h)
-    (ap (λ t. weights_back h (received t)) c.new.ensures.same.0 ∙ ap (weights_back h) w.unused.1) (ap (λ t. weights_listed h t.pass.taken) c.new.ensures.same.2 ∙ ap (weights_listed h) w.untaken.0)
-    (ap (weights_listed h) w.ungiven.1)
+    all_weighed (weighed h c.run_sides-end.new.intake.stock) (weighed h c.run_sides-end.new.list.blocks) (weights_given c.run_sides-end.new.giver h)
+    (weights_sent h (received c.run_sides-end.new.from)) (weights_sent h left) (weights_out c.ending-ended.result h) (weighed h c.new.result.taker.left.blocks) (weighed h c.bring_home.new.intake.stock)
+    (r.named h) (k.each_named h) (c.run_sides-end.new.supply.desk.taker.weighs h)
+    (ap (λ t. weights_listed h t.pass.taken) c.new.ensures.same ∙ ap (weights_listed h) w.untaken.0) (ap (weights_listed h) w.ungiven.1)
     (sum_of_both (weights_sent h) (weights_sent_append h) (received c.run_sides-end.new.from) (received c.slots_beside-waiting.new.self) known _ _ a.looked.1 a.fifo a.producer.1)
-    (left_weights h g.H.RoundHandler.stopped c.run_sides-end.result c.ending-ended.result known left e.some e.none)
-    (sum_of_both (weights_back h) (weights_back_append h) (received c.run_sides-end.new.supply.desk.tokens) (received c.slots_beside.new.self) (known_items c.slots_beside.new.self) _ _
-    (b.looked.1 ∙ ap received c.close-tokens.ensures.same.0) b.fifo b.producer.1)
-    (ap (λ t. weights_shelved h t.items) c.close-tokens.ensures.same.1) (ap (λ t. weighed h t.left.blocks) c.close-tokens.ensures.same.2)
-    (ap (λ t. weights_listed h t.pass.taken) c.close-tokens.ensures.same.2) (f.named h) (c.drop_parcels.ensures.named h) (ap (λ (s : RoundsState). weighed h s.stock) view)
+    (left_weights h g.H.RoundHandler.stopped c.run_sides-end.result c.ending-ended.result known left e.some e.none) (ap (λ t. weighed h t.left.blocks) c.close-taker.ensures.same)
+    (ap (λ t. weights_listed h t.pass.taken) c.close-taker.ensures.same) (f.named h) (c.drop_parcels.ensures.named h) (ap (λ (s : RoundsState). weighed h s.stock) view)
     (ap (weights_sent h) c.send_first.ensures.sent.1) (ap (λ (x : RoundRead). weights_of x.round h) c.send_first.ensures.sent.2) in
     let whole = c.bring_home.new.intake.home + blocks_of left in
     all_went (did (options_of first)) g.H.RoundHandler.stopped (g.H.RoundHandler.ready (options_of first) first.keep) first new intake whole c.run_sides-end.new.intake.taken c.args.read
@@ -169,7 +158,7 @@ returns-clause-handled g c =
       all = ap (λ (s : RoundsState). s.home) d;
       after = ap (λ (s : RoundsState). s.taken) d ∙ ap (λ (i : IntakeState). i.taken) f.same;
       pauses = few_home c.new.result.taker.pass.empties r.paused (ap (λ (s : RoundsState). s.pauses) d ∙ ap (λ (i : IntakeState). i.pauses) f.same) (ap (λ (s : RoundsState). s.pauses) view)
-          (ap (λ (s : RoundsState). s.empties) d ∙ f.empties) (r.same.2 ∙ ap (λ (s : RoundsState). s.empties) view) (ap (λ t. t.pass.empties) c.close-tokens.ensures.same.2);
+          (ap (λ (s : RoundsState). s.empties) d ∙ f.empties) (r.same.2 ∙ ap (λ (s : RoundsState). s.empties) view) (ap (λ t. t.pass.empties) c.close-taker.ensures.same);
     })
     (record {
       out = c.requires.out.out;
@@ -177,13 +166,13 @@ returns-clause-handled g c =
       few = subst (λ (n : ℕ). n < 2 ^ 64) c.taken.ensures.value c.taken.type_inv;
       alone = c.send_first.ensures.sent;
       on = r.read;
-      fifo = ap (λ (l : List (Option Parcel)). l ++ known) (sym a.looked.1) ∙ a.fifo ∙ a.producer.1;
+      fifo = ap (λ (l : List Parcel). l ++ known) (sym a.looked.1) ∙ a.fifo ∙ a.producer.1;
       later = r.later;
     })
     c.args.into.now c.run_sides-end.new.into
     (counted_as did g.H.RoundHandler.stopped g.H.RoundHandler.ready (options_of first) (options_at c.prepare.new.bench) first.keep c.prepare.new.bench.keep (2 ^ 32 + 4096) c.run_sides-end.new.into options
     keep k.ready)
-    c.run_sides-end.result c.ending-ended.result left (whole_home c.bring_home.new.intake.home (blocks_in c.close-tokens.result.2.pass.taken) (blocks_of left) (blocks_out c.ending-ended.result) f.home (counted g (goal.at.returns-clause-handled g c).After-ending-ended)) named
+    c.run_sides-end.result c.ending-ended.result left (whole_home c.bring_home.new.intake.home (blocks_in c.close-taker.result.pass.taken) (blocks_of left) (blocks_out c.ending-ended.result) f.home (counted g (goal.at.returns-clause-handled g c).After-ending-ended)) named
     (ends_as did g.H.RoundHandler.stopped (options_of first) (options_at c.prepare.new.bench) (received c.run_sides-end.new.from) c.args.into.now c.run_sides-end.new.into c.run_sides-end.result
     options k.handled)
     e.some e.none
@@ -199,13 +188,6 @@ invariant_of-rounds g c =
       few = v.few;
       room = room_later (i.blocks + i.blocks) (i.home + i.home) c.rounds.inside.bench.room c.prepare.new.bench.room v.room p.later;
     }
-
-pub send_first-requires-clause-shelf : goal.send_first-requires-clause-shelf
-send_first-requires-clause-shelf g c =
-    let shelf = c.in-Ok.ensures.shelf in (shelf.0, shelf.1 ∙ c.rounds.invariant.blocks ∙ ap (λ (s : RoundsState). s.blocks) c.rounds.view_is ∙ c.requires.named)
-
-pub new-requires-clause-none : goal.new-requires-clause-none
-new-requires-clause-none g c = (c.args.ways.unused.1, c.in-Ok.ensures.shelves)
 
 pub returns-clause-same_source : goal.returns-clause-same_source
 returns-clause-same_source g c = c.run_sides-end.ensures.same_source

@@ -1,4 +1,4 @@
-use Rattle.std.proofs.Common.{◌^◌, List, Option, ap, sym, length}
+use Rattle.std.proofs.Common.{◌^◌, List, ap, sym, length}
 use Rattle.rtrb.specs.Ring.{sent}
 use Rattle.pipeline.specs.declared.parcel.Parcel.{Parcel}
 use Rattle.pipeline.specs.Parcels.{rounds_of}
@@ -10,11 +10,9 @@ send-requires g c =
     let r = c.requires in
     record {
       allowed = record {
-        number = sym (ap (λ (xs : List (Option Parcel)). length (rounds_of xs)) r.none);
+        number = sym (ap (λ (xs : List Parcel). length (rounds_of xs)) r.none);
         packets = packets_none (2 ^ 32) (sent c.args.out.now) r.none;
         is = r.read;
         blocks = r.within;
-        empty = r.shelf.0;
-        made = r.shelf.1;
       };
     }

@@ -1,9 +1,8 @@
-use Rattle.std.proofs.Common.{◌∙◌, ◌∷◌, ◌+◌, ◌++◌, [], ℕ, List, Option, None, Some, true, ap, sym, subst, refl, arith, length, length-append, append-nil}
-use Rattle.rtrb.specs.Ring.{sent, received}
+use Rattle.std.proofs.Common.{◌≡◌, ◌∙◌, ◌∷◌, ◌+◌, ◌++◌, [], ℕ, List, true, ap, sym, subst, refl, arith, length, length-append, append-nil}
+use Rattle.rtrb.specs.Ring.{sent, SameProducer}
 use Rattle.pipeline.specs.declared.parcel.Parcel.{Parcel}
 use Rattle.block_supply.specs.Lists.{listed_home, weights_home}
-use Rattle.crossing.specs.Tokens.{homes_of, shelved, weights_back, weights_shelved}
-use Rattle.pipeline.specs.Parcels.{blocks_of, packets_of, rounds_of, weights_sent}
+use Rattle.pipeline.specs.Parcels.{blocks_of, packets_of, rounds_of, weights_sent, IsFit}
 use Rattle.pipeline.specs.Reads.{HasRead}
 use Rattle.block_pool.specs.PoolState.{weighed}
 use Rattle.crossing.specs.Desks.{brought_to, weights_to}
@@ -11,18 +10,18 @@ use Rattle.crossing.specs.declared.desk.Desk.{Desk}
 use Rattle.crossing.specs.declared.post.Post.{Ghosts}
 use Rattle.rounds.specs.RoundsState.{IntakeState}
 use Rattle.rounds.specs.Weights.{weights_of}
-use Rattle.pipeline.proofs.Counting.{least_equal, least_same, least_then, number_more, packets_more, read_more, read_none, read_stopped, same_brought}
+use Rattle.pipeline.proofs.Counting.{least_equal, least_same, least_then, most_same, number_more, packets_more, read_more, read_stopped}
 use Rattle.pipeline.proofs.Kept.{producer_then}
 use Rattle.rounds.specs.Reads.{reader_at, Reads, Spot}
 use Rattle.rounds.proofs.Going.{few_later, few_none, few_paused}
 use Rattle.rounds.proofs.Rows.{all_go_last, full_end, reads_last}
-use Rattle.pipeline.proofs.Rows.{blocks_last, packets_append, read_as, rounds_last, sent_more, sent_none, weights_sent_append}
+use Rattle.pipeline.proofs.Rows.{blocks_last, packets_append, read_as, rounds_last, sent_more, weights_sent_append}
 use Rattle.pipeline.proofs.sides.read_side.Given as given
 use Rattle.pipeline.proofs.sides.read_side.Goals as goal
 use Rattle.pipeline.proofs.sides.read_side.Goals.{After-is_full}
 
 -- before the first turn
-read_nothing : {W : Type 0} {G : Ghosts W} (intake : IntakeState) (at : Spot) (xs : List (Option Parcel)) (desk : Desk W G) → HasRead intake intake at at xs xs desk desk
+read_nothing : {W : Type 0} {G : Ghosts W} (intake : IntakeState) (at : Spot) (xs : List Parcel) (desk : Desk W G) → HasRead intake intake at at xs xs desk desk
 read_nothing intake at xs desk = record {
   read = record { more = []; sent = sym (append-nil (rounds_of xs)); reads = refl };
   sum = refl;
@@ -33,22 +32,29 @@ read_nothing intake at xs desk = record {
 }
 
 abbrev parcel : (g : given.Over) → After-is_full g → Parcel
-parcel g c = record { number = c.loop.number; read = c.read_beside-read.result; shelf = c.in-Some-pick.shelf }
+parcel g c = record { number = c.loop.number; read = c.read_beside-read.result; spent = c.pick.result }
+
+-- what was sent
+sent_now : (g : given.Over) (c : After-is_full g) → sent c.send.new.ring ≡ sent c.loop.supply.out ++ parcel g c ∷ []
+sent_now g c = c.send.ensures.sent ∙ ap (λ (xs : List Parcel). xs ++ parcel g c ∷ []) c.await_place.ensures.sent
+
+ring_now : (g : given.Over) (c : After-is_full g) → SameProducer c.args.supply.now.out c.send.new.ring
+ring_now g c = producer_then c.args.supply.now.out c.await_place.new.ring c.send.new.ring (producer_then c.args.supply.now.out c.loop.supply.out c.await_place.new.ring c.loop.invariant.ring c.await_place.ensures.ring) c.send.ensures.ring
 
 -- with the last round
 all_read : (g : given.Over) (c : After-is_full g) → HasRead c.args.intake.now c.read_beside-read.new.self
     (reader_at g.S.Source.left g.S.Source.faults c.args.reader.now c.args.intake.now.taken)
     (reader_at g.S.Source.left g.S.Source.faults c.read_beside-read.new.reader c.read_beside-read.new.self.taken)
-    (sent c.args.supply.now.out) (sent c.send-in-loop.new.ring) c.args.supply.now.desk c.lend.new.self
+    (sent c.args.supply.now.out) (sent c.send.new.ring) c.args.supply.now.desk c.pick.new.self
 all_read g c =
     let l = c.loop in
     let i = l.invariant in
     let e = i.read in
+    let w = c.await_place.ensures.same in
     let b = c.bring_more.ensures in
-    let k = c.pick.ensures in
     let r = c.read_beside-read.ensures in
-    let d = c.lend.ensures.same in
-    let s = c.send-in-loop.ensures.sent in
+    let d = c.pick.ensures.same ∙ c.lend.ensures.same in
+    let s = sent_now g c in
     record {
       read = record {
         more = e.read.more ++ c.read_beside-read.result ∷ [];
@@ -70,68 +76,42 @@ all_read g c =
             }));
       };
       sum = read_more l.intake.home (blocks_of (sent l.supply.out)) (brought_to c.args.supply.now.desk) c.args.intake.now.home (blocks_of (sent c.args.supply.now.out)) (brought_to l.supply.desk)
-          c.bring_more.new.self.home c.read_beside-read.new.self.home c.read_beside-read.result.round.blocks e.sum b.sum
-          (same_brought (ap (λ t. homes_of (received t)) k.same.1) k.same.0 (ap (λ t. listed_home t.pass t.left) k.same.2)) r.sum
-          (same_brought (ap (λ t. homes_of (received t)) d.1) (ap (λ s. shelved s.items) d.0) (ap (λ t. listed_home t.pass t.left) d.2))
-          (ap blocks_of s ∙ blocks_last (sent l.supply.out) (Some (parcel g c)));
+          c.bring_more.new.self.home c.read_beside-read.new.self.home c.read_beside-read.result.round.blocks (brought_to c.bring_more.new.more) e.sum (ap (λ t. listed_home t.pass t.left) w) b.sum r.sum
+          (ap (λ t. listed_home t.pass t.left) d) (ap blocks_of s ∙ blocks_last (sent l.supply.out) (parcel g c));
       named = λ h.
           read_more (weighed h l.intake.stock) (weights_sent h (sent l.supply.out)) (weights_to c.args.supply.now.desk h) (weighed h c.args.intake.now.stock) (weights_sent h (sent c.args.supply.now.out))
-          (weights_to l.supply.desk h) (weighed h c.bring_more.new.self.stock) (weighed h c.read_beside-read.new.self.stock) (weights_of c.read_beside-read.result.round h) (e.named h) (b.named h)
-          (same_brought (ap (λ t. weights_back h (received t)) k.same.1) (k.named h) (ap (λ t. weights_home h t.pass t.left) k.same.2)) (r.named h)
-          (same_brought (ap (λ t. weights_back h (received t)) d.1) (ap (λ s. weights_shelved h s.items) d.0) (ap (λ t. weights_home h t.pass t.left) d.2))
-          (ap (weights_sent h) s ∙ weights_sent_append h (sent l.supply.out) (Some (parcel g c) ∷ []));
+          (weights_to l.supply.desk h) (weighed h c.bring_more.new.self.stock) (weighed h c.read_beside-read.new.self.stock) (weights_of c.read_beside-read.result.round h) (weights_to c.bring_more.new.more h) (e.named h)
+          (ap (λ t. weights_home h t.pass t.left) w) (b.named h) (r.named h) (ap (λ t. weights_home h t.pass t.left) d)
+          (ap (weights_sent h) s ∙ weights_sent_append h (sent l.supply.out) (parcel g c ∷ []));
       paused = few_later _ _ _ _ _ _
-          (few_paused true refl _ _ _ _ _ _ (few_later _ _ _ _ _ _ e.paused (least_same _ _ _ (ap (λ t. t.pass.empties) k.same.2) b.asked) b.same.4) r.asked r.later_pauses r.paused)
-          (least_equal _ _ (ap (λ t. t.pass.empties) d.2)) refl;
+          (few_paused true refl _ _ _ _ _ _ (few_later _ _ _ _ _ _ e.paused (most_same _ _ _ (sym (ap (λ t. t.pass.empties) w)) b.asked) b.same.4) r.asked r.later_pauses r.paused)
+          (least_equal _ _ (ap (λ t. t.pass.empties) d)) refl;
       same = (r.same.0 ∙ b.same.0 ∙ e.same.0, r.same.1 ∙ b.same.2 ∙ e.same.1, r.same.2 ∙ b.same.3 ∙ e.same.2);
       later = least_then _ _ _ e.later r.later;
-    }
-
-pub returns-in_default-clause-read : goal.returns-in_default-clause-read
-returns-in_default-clause-read g c =
-    let l = c.loop in
-    let e = l.invariant.read in
-    let b = c.bring_more.ensures in
-    let k = c.pick.ensures in
-    let s = c.send.ensures.sent in
-    record {
-      read = record {
-        more = e.read.more;
-        sent = sent_none (sent c.args.supply.now.out) (sent l.supply.out) _ e.read.more e.read.sent s;
-        reads = subst (λ (t : ℕ). Reads c.args.intake.now.blocks c.args.intake.now.budget
-            (reader_at g.S.Source.left g.S.Source.faults c.args.reader.now c.args.intake.now.taken) e.read.more (reader_at g.S.Source.left g.S.Source.faults l.reader t)) (sym b.same.1) e.read.reads;
-      };
-      sum = read_none l.intake.home (blocks_of (sent l.supply.out)) (brought_to c.args.supply.now.desk) c.args.intake.now.home (blocks_of (sent c.args.supply.now.out)) (brought_to l.supply.desk)
-          c.bring_more.new.self.home e.sum b.sum (same_brought (ap (λ t. homes_of (received t)) k.same.1) k.same.0 (ap (λ t. listed_home t.pass t.left) k.same.2))
-          (ap blocks_of s ∙ blocks_last (sent l.supply.out) None);
-      named = λ h.
-          read_none (weighed h l.intake.stock) (weights_sent h (sent l.supply.out)) (weights_to c.args.supply.now.desk h) (weighed h c.args.intake.now.stock) (weights_sent h (sent c.args.supply.now.out))
-          (weights_to l.supply.desk h) (weighed h c.bring_more.new.self.stock) (e.named h) (b.named h)
-          (same_brought (ap (λ t. weights_back h (received t)) k.same.1) (k.named h) (ap (λ t. weights_home h t.pass t.left) k.same.2))
-          (ap (weights_sent h) s ∙ weights_sent_append h (sent l.supply.out) (None ∷ []));
-      paused = few_later _ _ _ _ _ _ e.paused (least_same _ _ _ (ap (λ t. t.pass.empties) k.same.2) b.asked) b.same.4;
-      same = (b.same.0 ∙ e.same.0, b.same.2 ∙ e.same.1, b.same.3 ∙ e.same.2);
-      later = e.later;
     }
 
 pub returns-then-has_stopped-clause-read : goal.returns-then-has_stopped-clause-read
 returns-then-has_stopped-clause-read g c =
     let l = c.loop in
     let e = l.invariant.read in
+    let w = c.await_place.ensures.same in
     let b = c.bring_more.ensures in
+    let s = c.await_place.ensures.sent in
     record {
       read = record {
         more = e.read.more;
-        sent = e.read.sent;
+        sent = ap rounds_of s ∙ e.read.sent;
         reads = subst (λ (t : ℕ). Reads c.args.intake.now.blocks c.args.intake.now.budget
             (reader_at g.S.Source.left g.S.Source.faults c.args.reader.now c.args.intake.now.taken) e.read.more (reader_at g.S.Source.left g.S.Source.faults l.reader t)) (sym b.same.1) e.read.reads;
       };
-      sum = read_stopped l.intake.home (blocks_of (sent l.supply.out)) (brought_to c.args.supply.now.desk) c.args.intake.now.home (blocks_of (sent c.args.supply.now.out)) (brought_to l.supply.desk)
-          c.bring_more.new.self.home (brought_to c.bring_more.new.more) e.sum b.sum;
+      sum = ap (λ (n : ℕ). c.bring_more.new.self.home + n + brought_to c.args.supply.now.desk) (ap blocks_of s)
+          ∙ read_stopped l.intake.home (blocks_of (sent l.supply.out)) (brought_to c.args.supply.now.desk) c.args.intake.now.home (blocks_of (sent c.args.supply.now.out)) (brought_to l.supply.desk)
+          c.bring_more.new.self.home (brought_to c.bring_more.new.more) e.sum (ap (λ t. listed_home t.pass t.left) w) b.sum;
       named = λ h.
-          read_stopped (weighed h l.intake.stock) (weights_sent h (sent l.supply.out)) (weights_to c.args.supply.now.desk h) (weighed h c.args.intake.now.stock) (weights_sent h (sent c.args.supply.now.out))
-          (weights_to l.supply.desk h) (weighed h c.bring_more.new.self.stock) (weights_to c.bring_more.new.more h) (e.named h) (b.named h);
-      paused = few_later _ _ _ _ _ _ e.paused b.asked b.same.4;
+          ap (λ (n : ℕ). weighed h c.bring_more.new.self.stock + n + weights_to c.args.supply.now.desk h) (ap (weights_sent h) s)
+          ∙ read_stopped (weighed h l.intake.stock) (weights_sent h (sent l.supply.out)) (weights_to c.args.supply.now.desk h) (weighed h c.args.intake.now.stock)
+          (weights_sent h (sent c.args.supply.now.out)) (weights_to l.supply.desk h) (weighed h c.bring_more.new.self.stock) (weights_to c.bring_more.new.more h) (e.named h) (ap (λ t. weights_home h t.pass t.left) w) (b.named h);
+      paused = few_later _ _ _ _ _ _ e.paused (most_same _ _ _ (sym (ap (λ t. t.pass.empties) w)) b.asked) b.same.4;
       same = (b.same.0 ∙ e.same.0, b.same.2 ∙ e.same.1, b.same.3 ∙ e.same.2);
       later = e.later;
     }
@@ -139,21 +119,19 @@ returns-then-has_stopped-clause-read g c =
 pub returns-then-not-is_full-clause-read : goal.returns-then-not-is_full-clause-read
 returns-then-not-is_full-clause-read g c = all_read g (goal.at.returns-then-not-is_full-clause-read g c).After-is_full
 
-pub send-requires-in-loop : goal.send-requires-in-loop
-send-requires-in-loop g c =
+pub send-requires : goal.send-requires
+send-requires g c =
     let l = c.loop in
     let i = l.invariant in
     let r = c.read_beside-read.ensures in
-    let n = c.requires.reads.named in
     record {
-      allowed = record {
-        number = i.number;
-        packets = least_then _ _ _ i.packets i.ready.counted.few;
-        is = record { few = least_then _ _ _ r.size r.budget.1; captured = r.captured; numbers = (l.reader.place.number, r.numbers) };
-        blocks = least_same _ _ _ (sym (c.bring_more.ensures.same.0 ∙ i.read.same.0 ∙ n.0)) r.within;
-        empty = c.in-Some-pick.ensures.ready.0;
-        made = c.in-Some-pick.ensures.ready.1 ∙ n.1;
-      };
+      allowed = subst (λ (xs : List Parcel). IsFit g.N.Naming.blocks xs (record { number = l.number; read = c.read_beside-read.result; spent = c.pick.result })) (sym c.await_place.ensures.sent)
+          (record {
+            number = i.number;
+            packets = least_then _ _ _ i.packets i.ready.counted.few;
+            is = record { few = least_then _ _ _ r.size r.budget.1; captured = r.captured; numbers = (l.reader.place.number, r.numbers) };
+            blocks = least_same _ _ _ (sym (c.bring_more.ensures.same.0 ∙ i.read.same.0 ∙ c.requires.reads.named)) r.within;
+          });
     }
 
 pub loop-init : goal.loop-init
@@ -167,8 +145,8 @@ loop-init g c =
       link = a.link;
       read = read_nothing c.args.intake.now (reader_at g.S.Source.left g.S.Source.faults c.args.reader.now c.args.intake.now.taken) (sent c.args.supply.now.out) c.args.supply.now.desk;
       go = tt;
-      number = omega (arith, ap (λ (xs : List (Option Parcel)). length (rounds_of xs)) a.first.1);
-      packets = omega (arith, ap (λ (xs : List (Option Parcel)). packets_of (rounds_of xs)) a.first.1, a.first.3);
+      number = omega (arith, ap (λ (xs : List Parcel). length (rounds_of xs)) a.first.1);
+      packets = omega (arith, ap (λ (xs : List Parcel). packets_of (rounds_of xs)) a.first.1, a.first.3);
       counted = omega arith;
     }
 
@@ -183,9 +161,9 @@ loop-preserved g c =
     let on = sym c.is_full.ensures.full ∙ c.if-not-is_full.false in
     let full = full_end read.end on in
     let passes = r.full full in
-    let now = rounds_last (sent l.supply.out) _ (parcel g p) c.send-in-loop.ensures.sent in
+    let now = rounds_last (sent l.supply.out) _ (parcel g p) (sent_now g p) in
     record {
-      ring = producer_then c.args.supply.now.out l.supply.out c.send-in-loop.new.ring i.ring c.send-in-loop.ensures.ring;
+      ring = ring_now g p;
       same = r.same_source ∙ i.same;
       ready = passes.ready;
       link = passes.link ∙ i.link;
@@ -204,15 +182,11 @@ returns-then-not-begin-clause-read g c =
 pub returns-then-has_stopped-clause-same_source : goal.returns-then-has_stopped-clause-same_source
 returns-then-has_stopped-clause-same_source g c = c.loop.invariant.same
 
-pub returns-in_default-clause-ring : goal.returns-in_default-clause-ring
-returns-in_default-clause-ring g c = producer_then c.args.supply.now.out c.loop.supply.out c.send.new.ring c.loop.invariant.ring c.send.ensures.ring
-
-pub returns-in_default-clause-same_source : goal.returns-in_default-clause-same_source
-returns-in_default-clause-same_source g c = c.loop.invariant.same
+pub returns-then-has_stopped-clause-ring : goal.returns-then-has_stopped-clause-ring
+returns-then-has_stopped-clause-ring g c = producer_then c.args.supply.now.out c.loop.supply.out c.await_place.new.ring c.loop.invariant.ring c.await_place.ensures.ring
 
 pub returns-then-not-is_full-clause-ring : goal.returns-then-not-is_full-clause-ring
-returns-then-not-is_full-clause-ring g c =
-    producer_then c.args.supply.now.out c.loop.supply.out c.send-in-loop.new.ring c.loop.invariant.ring c.send-in-loop.ensures.ring
+returns-then-not-is_full-clause-ring g c = ring_now g (goal.at.returns-then-not-is_full-clause-ring g c).After-is_full
 
 pub returns-then-not-is_full-clause-same_source : goal.returns-then-not-is_full-clause-same_source
 returns-then-not-is_full-clause-same_source g c = c.read_beside-read.ensures.same_source ∙ c.loop.invariant.same

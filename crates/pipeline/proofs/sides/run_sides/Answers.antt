@@ -1,10 +1,10 @@
 use Rattle.std.proofs.Common.{sym, ap}
 use Rattle.rounds.specs.Benches.{options_at}
 use Rattle.rounds.specs.Reads.{reader_at}
-use Rattle.rtrb.specs.Ring.{received, sent, SameConsumer, SameProducer}
+use Rattle.rtrb.specs.Ring.{received, sent}
 use Rattle.pipeline.specs.Handled.{HasWorked}
 use Rattle.pipeline.specs.Reads.{HasRead}
-use Rattle.pipeline.proofs.Kept.{as_three}
+use Rattle.pipeline.proofs.Kept.{as_two, as_three}
 use Rattle.pipeline.proofs.sides.run_sides.Goals as goal
 
 -- What a closure of `join_mut` says is of what it left, and what is lent to it has that afterwards: `given` is an equation of the two, by the names
@@ -12,9 +12,10 @@ use Rattle.pipeline.proofs.sides.run_sides.Goals as goal
 pub returns-clause-rings : goal.returns-clause-rings
 returns-clause-rings g c =
     let read = c.join_mut-end.ensures.0.met in
-    let work = c.join_mut-end.ensures.1.met in
-    as_three (λ out from told. SameProducer c.args.supply.now.out out × SameConsumer c.args.from.now from × SameProducer c.args.told.now told)
-    (ap (λ s. s.out) (c.supply-1.given.1 (sym read.0.3))) (c.from-1.given.1 (sym work.0.7)) (c.told-1.given.1 (sym work.0.8)) (read.1.0, work.1.0.0, work.1.0.1)
+    let work = c.join_mut-end.ensures.1.met in (
+      rw (ap (λ s. s.out) (c.supply-1.given.1 (sym read.0.3))) read.1.0,
+      rw (c.from-1.given.1 (sym work.0.8)) work.1.0,
+    )
 
 pub returns-clause-same_source : goal.returns-clause-same_source
 returns-clause-same_source g c = let read = c.join_mut-end.ensures.0.met in rw (c.reader-1.given.1 (sym read.0.1)) read.1.1.0
@@ -35,8 +36,7 @@ returns-clause-worked g c =
     let did = g.H.RoundHandler.did a.handler.now (options_at a.bench.now) in
     let ready = g.H.RoundHandler.ready (options_at a.bench.now) a.bench.now.keep in
     let left = c.join_mut-end.new.g in
-    as_three (λ bench kept giver. HasWorked did g.H.RoundHandler.stopped ready a.bench.now bench kept a.giver.now giver a.into.now c.into-1.given.0 (received c.from-1.given.0) (sent c.told-1.given.0)
-    c.join_mut-end.result.1)
-    (c.bench-1.given.1 (sym o.2)) (c.kept-1.given.1 (sym o.3)) (c.giver-1.given.1 (sym o.4))
-    (as_three (λ into from told. HasWorked did g.H.RoundHandler.stopped ready a.bench.now left.2.now left.3.now a.giver.now left.4.now a.into.now into (received from) (sent told) c.join_mut-end.result.1)
-    (c.into-1.given.1 (sym o.6)) (c.from-1.given.1 (sym o.7)) (c.told-1.given.1 (sym o.8)) work.1.1)
+    as_three (λ bench list giver. HasWorked did g.H.RoundHandler.stopped ready a.bench.now bench list a.giver.now giver a.into.now c.into-1.given.0 (received c.from-1.given.0) c.join_mut-end.result.1)
+    (c.bench-1.given.1 (sym o.3)) (c.list-1.given.1 (sym o.4)) (c.giver-1.given.1 (sym o.5))
+    (as_two (λ into from. HasWorked did g.H.RoundHandler.stopped ready a.bench.now left.3.now left.4.now a.giver.now left.5.now a.into.now into (received from) c.join_mut-end.result.1)
+    (c.into-1.given.1 (sym o.7)) (c.from-1.given.1 (sym o.8)) work.1.1)

@@ -1,6 +1,6 @@
 use Rattle.std.proofs.Common.{arith, inl, inr}
 use Rattle.block_supply.proofs.Listing.{left_weighs}
-use Rattle.crossing.proofs.Shelves.{refill_weighs}
+use Rattle.raw_block.specs.Views.{SoleState}
 use Rattle.engine_tests.proofs.rounds_in_turn.sides.ShelfSupply.bring.Goals as goal
 
 pub invariant_of-self : goal.invariant_of-self
@@ -19,5 +19,5 @@ returns-clause-named g c h =
       arith,
       c.args.self.now.weighs h,
       left_weighs h c.args.self.now.pool c.refill.new.from c.args.pool.now c.refill.new.self c.refill.ensures.moved,
-      refill_weighs h c.args.self.now.pool.blocks c.refill.new.from.blocks c.args.pool.now.blocks c.refill.new.self.blocks c.refill.ensures.blocks,
+      c.refill.ensures.blocks (λ (s : SoleState). h s.block),
     )
