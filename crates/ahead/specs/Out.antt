@@ -2,7 +2,7 @@
 use Rattle.std.specs.Prelude.{ℕ, Result, Ok, Err}
 use Rattle.block_pool.specs.PassState.{PassState}
 use Rattle.block_pool.specs.PoolState.{PoolState}
-use Rattle.block_supply.specs.Lists.{listed_home, weights_home}
+use Rattle.block_supply.specs.Lists.{weights_home}
 use Rattle.rounds.specs.RoundOf.{Brought}
 use Rattle.rounds.specs.RoundsState.{WorkedState}
 use Rattle.rounds.specs.Weights.{weights_worked}
@@ -19,8 +19,6 @@ weights_out (Err error) h = 0
 -- by lists that are taken, and none waited for
 abbrev pub brought_listed : PassState PoolState → PoolState → Brought
 brought_listed pass left = record {
-  count = listed_home pass left;
   weights = λ h. weights_home h pass left;
-  owed = 0;
   refusals = pass.empties;
 }

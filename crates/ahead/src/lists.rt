@@ -45,17 +45,9 @@ impl<R: Wait, N: ListName> Supply for NextLists<'_, R, N> {
     ghost use Rattle.std.specs.Prelude.{false, true};
     ghost use Rattle.block_supply.specs.Lists.{listed_home, weights_home};
 
-    ghost brought = { λ n. listed_home n.taker.pass n.taker.left };
-
     ghost weights = { λ n h. weights_home h n.taker.pass n.taker.left };
 
-    ghost counts = { true };
-
     ghost refusals = { λ n. n.taker.pass.empties };
-
-    ghost looks = { false };
-
-    ghost owed = { λ _. 0 };
 
     ghost ended = { λ _. true };
 
@@ -66,6 +58,10 @@ impl<R: Wait, N: ListName> Supply for NextLists<'_, R, N> {
             }
         }
         true
+    }
+
+    fn look(&mut self, pool: &mut Pool) {
+        let _came = self.taker.bring(self.rt, pool);
     }
 
     fn has_ended(&self) -> bool {

@@ -6,7 +6,7 @@ use Rattle.raw_block.specs.Views.{SoleState}
 use Rattle.block_pool.specs.Listed.{blocks_in}
 use Rattle.block_pool.specs.PassState.{PassState, IsHome}
 use Rattle.block_pool.specs.PoolState.{PoolState, home, weighed, MovesAll, MovesLast}
-use Rattle.block_supply.specs.Lists.{weights_listed}
+use Rattle.block_supply.specs.Lists.{listed_home, weights_home, weights_listed}
 
 none_known : {A : Type 0} (xs : List A) → length xs ≤ 0 → xs ≡ []
 none_known [] e = refl
@@ -21,9 +21,17 @@ pub left_weighs : (h : ℕ → ℕ) (a b c d : PoolState) → MovesAll a b c d �
 left_weighs h a b c d (inl all) = omega (arith, ap (weighed h) all.0)
 left_weighs h a b c d (inr last) = omega (arith, ap (weighed h) last.1, sum_by-append (λ (s : SoleState). h s.block) b.blocks last.0)
 
-ones : (bs : List SoleState) → sum_by (λ _. 1) bs ≡ length bs
+-- by weights of 1 blocks weigh as much as they are
+pub ones : (bs : List SoleState) → weighed (λ _. 1) bs ≡ length bs
 ones [] = refl
 ones (b ∷ bs) = omega (arith, sum_by-cons (λ _. 1) b bs, ones bs)
+
+-- so what came home, by its weights, is also counted
+pub home_by_ones : (from to : ℕ) (old new : List SoleState) → weighed (λ _. 1) new + from ≡ weighed (λ _. 1) old + to → length new + from ≡ length old + to
+home_by_ones from to old new e = omega (arith, e, ones old, ones new)
+
+pub listed_ones : (pass : PassState PoolState) (left : PoolState) → weights_home (λ _. 1) pass left ≡ listed_home pass left
+listed_ones pass left = omega (arith, ones left.blocks)
 
 abbrev size_of : PoolState → ℕ
 size_of p = sum_by (λ _. 1) p.blocks

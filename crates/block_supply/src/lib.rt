@@ -1,18 +1,19 @@
 //! Where blocks come from while records are read into others.
 //!
-//! [`Supply`] is whoever brings blocks home between a record's header and its body. It says how many it still owes, and
-//! says no only where it owes none or where whoever has them keeps them. Who brings none is [`AllHome`].
+//! [`Supply`] is whoever brings blocks home between a record's header and its body, and before a round. It tells what
+//! these weigh, each by its name, how often it found none, and whether whoever has the others keeps them. Who brings
+//! none is [`AllHome`].
 //!
 //! [`Taker`] is the end of a pool of lists at which blocks come back that another thread gives. Each list comes by one
 //! step and is taken from at hand, block by block; its memory is there again once its blocks are home
 //! ([`Taker::take_spent`]). The other end is a [`Giver`](block_pool::Giver), and [`open_lists`] makes both: the giver
 //! has all parts of the pool's passes but one.
 //!
-//! Proved, of each supply: `sum`, `named` of `bring`: what came home is what it brought, just these blocks by their
-//! names; `same`: none was taken; `enough`: it says yes only where as many are home as are needed; `refused`, `looked`,
-//! `asked`: one that counts how often it says no did so; `owed`, `short`: one that still owes blocks says no only where
-//! it has ended. Of a taker: `sum` and `named` of [`Taker::bring`]: what came home is what was taken and isn't left of
-//! a list; `refused`: where none came a take found no list, or all places are taken.
+//! Proved, of each supply: `named` of `bring` and `look`: what came home is what it brought, just these blocks by their
+//! names, so by weights of 1 it is counted too; `same`: none was taken; `enough`: it says yes only where as many are
+//! home as are needed; `refused`, `looked`, `asked`: it counts how often it found none. Of a taker: `sum` and `named`
+//! of [`Taker::bring`]: what came home is what was taken and isn't left of a list; `refused`: where none came a take
+//! found no list, or all places are taken.
 //!
 //! ```
 //! let (mut taker, giver) = open_lists(alloc)?;

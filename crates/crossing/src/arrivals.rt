@@ -132,32 +132,23 @@ fn pause() {
 }
 
 impl<W: Post + Drop> Supply for Desk<W> {
-    ghost use Rattle.std.specs.Prelude.{true};
-    ghost use Rattle.crossing.specs.Desks.{brought_to, weights_to};
-
-    ghost brought = { brought_to };
+    ghost use Rattle.crossing.specs.Desks.{weights_to};
 
     ghost weights = { weights_to };
 
-    ghost counts = { true };
-
     ghost refusals = { λ d. d.taker.pass.empties };
-
-    ghost looks = { true };
-
-    ghost owed = { λ _. 0 };
 
     ghost ended = { λ d. d.stopped };
 
-    /// Where none is needed a round is to be read: then all lists come in. Behind a no that paused a round it waits, and
-    /// says no again only where the other side has stopped.
+    /// Behind a no that paused a round it waits, and says no again only where the other side has stopped.
     fn bring(&mut self, pool: &mut Pool, need: u32) -> bool {
-        if need == 0 {
-            self.meet_all(pool);
-            return true;
-        }
         self.meet_needed(pool, need);
         need <= pool.home()
+    }
+
+    /// All lists come in that have come.
+    fn look(&mut self, pool: &mut Pool) {
+        self.meet_all(pool);
     }
 
     fn has_ended(&self) -> bool {

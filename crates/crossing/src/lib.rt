@@ -19,7 +19,8 @@
 //! Proved: what was sent by a ring, item by item (`sent` of [`send`]); no block is lost at the desk, also by the names
 //! of blocks (`meets` of its calls, `Meets` of `specs/Desks.antt`): what is home and what hasn't come home of lists is
 //! what it was. As a supply the desk says yes only where as many blocks are home as are needed, and no only behind a
-//! take that found no list (`enough`, `refused` and `looked` of `bring`). Not proved: that a thread that waits is woken.
+//! take that found no list (`enough` and `refused` of `bring`, `looked` of `look`). Not proved: that a thread that waits
+//! is woken.
 //!
 //! ```
 //! let (mut out, mut from) = RingBuffer::new(alloc, IN_RING)?;

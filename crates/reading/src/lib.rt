@@ -22,8 +22,8 @@
 //!   `PoolEmpty` exactly where the round's need exceeds the blocks, with that need, judged by the record's header.
 //! - `kept`: where a record lacks blocks its header is kept, fewer are home than it needs, with it the round doesn't
 //!   exceed the blocks, and none was taken; `unkept`: else nothing is kept; `given` of [`finish_record`]: with the
-//!   bytes of its header, whatever they were, it is then read as any other. `refused`, `asked`: a supply that counts
-//!   how often it says no did so. `owed`, `short`: one that still owes blocks says no only where it has ended.
+//!   bytes of its header, whatever they were, it is then read as any other. `refused`, `asked`: the supply counted that
+//!   it found none.
 //! - `home`, `spares`, `back`: what of the pool is out, beside what came home meanwhile, is what the packet and its
 //!   spares have, and after a refusal nothing; `named`, `named_back`: these are just the same blocks, by their names;
 //!   `taken`, `most`, `least`: by how much the count of takes rises.
@@ -41,7 +41,7 @@
 //!     &mut hold,
 //!     &mut spares,
 //!     &mut reader,
-//!     &mut AllHome,
+//!     &mut AllHome::new(),
 //!     &mut kept,
 //!     &mut [],
 //!     0,

@@ -278,11 +278,9 @@ pub fn read_record<S: Source, H: Supply>(
         × Told (S.left (source_of reader.old)) (S.left (source_of reader.new))
         (GivesHead (place_of reader.old) (Ok (Some head))) }
     ensures unkept { result ≢ Err Stop.Lacking → kept.new ≡ kept.old }
-    ensures refused { H.counts ≡ true → result ≡ Err Stop.Lacking
+    ensures refused { result ≡ Err Stop.Lacking
         → min (H.refusals more.old + 1) (2 ^ 64 - 1) ≤ H.refusals more.new }
     ensures asked { H.refusals more.old ≤ H.refusals more.new }
-    ensures owed { H.owed more.old + H.brought more.old ≤ H.owed more.new + H.brought more.new }
-    ensures short { result ≡ Err Stop.Lacking → H.ended more.new ≡ false → H.owed more.new ≡ 0 }
     ensures room { packets.old.room ≤ packets.new.room + 1 }
     ensures number { OnOk result (OfNew packets.old packets.new (λ p. p.number ≡ (place_of reader.old).number)) }
     ensures original { OnOk result (OfNew packets.old packets.new (λ p. is_bad_original
@@ -297,15 +295,16 @@ pub fn read_record<S: Source, H: Supply>(
     ensures need { OnOk result (OfNew packets.old packets.new (λ p. count_of p + 2
         ≡ need_of (length (buffer_bytes p.skb)))) }
     ensures count { IfOk result (λ r. OfNew packets.old packets.new (λ p. count_of p + 2 ≡ r.1)) }
-    ensures home { IfOk result (λ r. home pool.new + r.1 + H.brought more.old ≡ home pool.old + H.brought more.new) }
+    ensures home { IfOk result (λ r. home pool.new + r.1 + H.weights more.old (λ _. 1)
+        ≡ home pool.old + H.weights more.new (λ _. 1)) }
     ensures spares { OnOk result (home spares.new ≡ home spares.old + 2) }
     ensures named { OnOk result (OfNew packets.old packets.new (λ p. (h : ℕ → ℕ) → weighed h pool.new.blocks
         + weighed_in h p.skb + weighed h spares.new.blocks + H.weights more.old h
         ≡ weighed h pool.old.blocks + weighed h spares.old.blocks + H.weights more.new h)) }
     ensures fits { IfOk result (λ r. used + r.1 ≤ pool.old.made) }
     ensures taken { IfOk result (λ r. pool.new.taken ≡ min (pool.old.taken + r.1) (2 ^ 64 - 1)) }
-    ensures back { OnErr result ((home pool.new + H.brought more.old ≡ home pool.old + H.brought more.new)
-        × (home spares.new ≡ home spares.old)) }
+    ensures back { OnErr result ((home pool.new + H.weights more.old (λ _. 1)
+        ≡ home pool.old + H.weights more.new (λ _. 1)) × (home spares.new ≡ home spares.old)) }
     ensures named_back { OnErr result ((h : ℕ → ℕ) → (weighed h pool.new.blocks + H.weights more.old h
         ≡ weighed h pool.old.blocks + H.weights more.new h)
         × (weighed h spares.new.blocks ≡ weighed h spares.old.blocks)) }

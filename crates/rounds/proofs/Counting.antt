@@ -67,14 +67,13 @@ size_more a b c = omega arith
 pub room_more : {k budget : ℕ} (n room room' : ℕ) → k ≡ n + 1 → budget ≤ n + room → room ≤ room' + 1 → budget ≤ k + room'
 room_more n room room' a b c = omega arith
 
-pub came_one : (from to : Brought) (used count : ℕ) (pool pool' spares spares' : PoolState) (ps qs : List Held) (p : Held) → qs ≡ ps ++ p ∷ [] → home pool' + count + from.count ≡ home pool + to.count
+pub came_one : (from to : Brought) (used count : ℕ) (pool pool' spares spares' : PoolState) (ps qs : List Held) (p : Held) → qs ≡ ps ++ p ∷ [] → home pool' + count + from.weights (λ _. 1) ≡ home pool + to.weights (λ _. 1)
     → ((h : ℕ → ℕ) → weighed h pool'.blocks + weighed_in h p.skb + weighed h spares'.blocks + from.weights h ≡ weighed h pool.blocks + weighed h spares.blocks + to.weights h)
-    → from.owed + from.count ≤ to.owed + to.count → from.refusals ≤ to.refusals
+    → from.refusals ≤ to.refusals
     → Came from to (home pool + used) (home pool' + (used + count)) (at_hand pool ps spares) (at_hand pool' qs spares')
-came_one from to used count pool pool' spares spares' ps qs p e sum named owed asked = record {
+came_one from to used count pool pool' spares spares' ps qs p e sum named asked = record {
   sum = omega (arith, sum);
   named = λ h. omega (arith, named h, ap (weighed_slots h) e, weighed_last h ps p);
-  owed = owed;
   asked = asked;
 }
 
@@ -99,7 +98,6 @@ pub came_read : (from to : Brought) (old now : ℕ) (w : (ℕ → ℕ) → ℕ) 
 came_read from to old now w pool round came = record {
   sum = came.sum;
   named = λ h. omega (arith, came.named h);
-  owed = came.owed;
   asked = came.asked;
 }
 
@@ -109,7 +107,6 @@ pub came_on : (from to : Brought) (old mid new before after : ℕ) (w v x p q : 
 came_on from to old mid new before after w v x p q came sum named = record {
   sum = omega (arith, came.sum, sum);
   named = λ h. omega (arith, came.named h, named h);
-  owed = came.owed;
   asked = came.asked;
 }
 

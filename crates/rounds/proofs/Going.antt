@@ -55,11 +55,11 @@ pub few_later : (e p e' p' e'' p'' : ℕ) → FewPauses e p e' p' → e' ≤ e''
 few_later e p e' p' e'' p'' few later same = (omega (arith, few.0, same), omega (arith, few.1, later, same))
 
 -- one more pause at most, behind a take that found nothing
-pub few_paused : (counts : Bool) → counts ≡ true → (e p e' p' e'' p'' : ℕ) → FewPauses e p e' p' → e' ≤ e'' → p' ≤ p''
-    → (p'' ≡ p') ⊎ ((p'' ≡ min (p' + 1) (2 ^ 64 - 1)) × (counts ≡ true → min (e' + 1) (2 ^ 64 - 1) ≤ e'')) → FewPauses e p e'' p''
-few_paused counts is e p e' p' e'' p'' few later least (inl same) = few_later e p e' p' e'' p'' few later same
-few_paused counts is e p e' p' e'' p'' few later least (inr rose) =
-    (omega (arith, few.0, least), omega (arith, few.0, few.1, later, least, rose.0, rose.1 is))
+pub few_paused : (e p e' p' e'' p'' : ℕ) → FewPauses e p e' p' → e' ≤ e'' → p' ≤ p''
+    → (p'' ≡ p') ⊎ ((p'' ≡ min (p' + 1) (2 ^ 64 - 1)) × (min (e' + 1) (2 ^ 64 - 1) ≤ e'')) → FewPauses e p e'' p''
+few_paused e p e' p' e'' p'' few later least (inl same) = few_later e p e' p' e'' p'' few later same
+few_paused e p e' p' e'' p'' few later least (inr rose) =
+    (omega (arith, few.0, least), omega (arith, few.0, few.1, later, least, rose.0, rose.1))
 
 -- both, one after the other
 pub few_then : (e p e' p' e'' p'' : ℕ) → FewPauses e p e' p' → FewPauses e' p' e'' p'' → FewPauses e p e'' p''

@@ -136,14 +136,13 @@ pub round_same : (ps qs : List Held) (spares spares' used : ℕ) → qs ≡ ps �
 round_same ps qs spares spares' used e at r = subst (λ (n : ℕ). IsRoundOf qs n used) (sym at) (subst (λ (xs : List Held). IsRoundOf xs spares used) (sym e) r)
 
 -- what came home while nothing was read
-pub came_back : (from to : Brought) (used : ℕ) (pool pool' spares spares' : PoolState) (ps qs : List Held) → qs ≡ ps → home pool' + from.count ≡ home pool + to.count
+pub came_back : (from to : Brought) (used : ℕ) (pool pool' spares spares' : PoolState) (ps qs : List Held) → qs ≡ ps → home pool' + from.weights (λ _. 1) ≡ home pool + to.weights (λ _. 1)
     → ((h : ℕ → ℕ) → (weighed h pool'.blocks + from.weights h ≡ weighed h pool.blocks + to.weights h) × (weighed h spares'.blocks ≡ weighed h spares.blocks))
-    → from.owed + from.count ≤ to.owed + to.count → from.refusals ≤ to.refusals
+    → from.refusals ≤ to.refusals
     → Came from to (home pool + used) (home pool' + used) (at_hand pool ps spares) (at_hand pool' qs spares')
-came_back from to used pool pool' spares spares' ps qs e count named owed asked = record {
+came_back from to used pool pool' spares spares' ps qs e count named asked = record {
   sum = omega (arith, count);
   named = λ h. omega (arith, (named h).0, (named h).1, ap (weighed_slots h) e);
-  owed = owed;
   asked = asked;
 }
 
@@ -151,7 +150,6 @@ pub came_then : (a b c : Brought) (old mid new : ℕ) (w x y : (ℕ → ℕ) →
 came_then a b c old mid new w x y p q = record {
   sum = omega (arith, p.sum, q.sum);
   named = λ h. omega (arith, p.named h, q.named h);
-  owed = omega (arith, p.owed, q.owed);
   asked = omega (arith, p.asked, q.asked);
 }
 
@@ -161,7 +159,6 @@ pub came_whole : (from to : Brought) (old new : ℕ) (pool spares : PoolState) (
 came_whole from to old new pool spares ps weighs none bare came = record {
   sum = omega (arith, came.sum);
   named = λ h. omega (arith, came.named h, ap (weighed_slots h) none, weighed_none h spares.blocks bare);
-  owed = came.owed;
   asked = came.asked;
 }
 
@@ -196,14 +193,6 @@ waits_over a b c old mid new first packets head so_far keeps told = record {
 waits_passes : (at old : Place) (first packets : List Held) (bytes opened : List ℕ) → first ≡ [] → PassesOver old at first packets bytes opened → Passes old at (map packet_of packets) bytes opened
 waits_passes at old first packets bytes opened none over = subst (λ (xs : List Held). PassesOver old at xs packets bytes opened) none over old bytes (passes_none old bytes)
 
--- for want of memory it ends
-pub waits_ends : (a b : Option (List ℕ)) (old new : Place) (blocks : ℕ) (first packets : List Held) (head : RecHead) → first ≡ [] → WaitsOver old new a b first packets head
-    → Told a b (GivesRound blocks old new packets ends.NoMemory)
-waits_ends a b old new blocks first packets head none w =
-    Told-weaker a b (λ bytes left. (opened : List ℕ) × (PassesOver old w.at first packets bytes opened × GivesHead w.at (Ok (Some head)) opened left))
-    (GivesRound blocks old new packets ends.NoMemory)
-    (λ bytes left x. loses_head w.at (map packet_of packets) old bytes x.0 left head (waits_passes w.at old first packets bytes x.0 none x.1.0) x.1.1) w.given
-
 pub waits_whole : (budget : ℕ) (old new : Place) (a b : Option (List ℕ)) (first : List Held) (p : Paused) → IsReady old → first ≡ [] → length p.round.packets < budget
     → NumbersOn old.number first p.round.packets → WaitsOver old new a b first p.round.packets p.head → Waits budget old new a b p
 waits_whole budget old new a b first p ready none fewer numbers w = record {
@@ -231,19 +220,6 @@ whole_on blocks budget from to first round halt end is ready none f = record {
   numbers = whole_numbered from.place.number first round none f.numbers;
   later = f.later;
   failed = λ fault. f.failed (is ∙ ap Ended fault);
-}
-
--- it waits for blocks that don't come
-pub whole_waits : (blocks budget : ℕ) (from to : Reached) (first round : List Held) (halt : Halt) (head : RecHead) → first ≡ [] → FillsOn blocks budget from to first round halt
-    → WaitsOver from.place to.place from.left to.left first round head → FillsWhole blocks budget from to round ends.NoMemory
-whole_waits blocks budget from to first round halt head none f w = record {
-  given = waits_ends from.left to.left from.place to.place blocks first round head none w;
-  size = f.size;
-  fewer = λ not_full memory. absurd (memory refl);
-  full = λ full. absurd (no_memory_full full);
-  numbers = whole_numbered from.place.number first round none f.numbers;
-  later = f.later;
-  failed = λ fault. absurd (no_memory_fault fault);
 }
 
 -- none is read, for want of memory

@@ -30,26 +30,18 @@ pub record Takes (made from to before after : ℕ) : Type 0 where
   pub least : (before ≤ after) × (from ≤ to)
   pub most : to + before ≤ from + made
 
--- of who brings blocks home: how many came and what they weigh, how many will yet, and how often it said no
+-- of who brings blocks home: what those weigh that came, and how often it found none to bring
 pub record Brought : Type 0 where
-  pub count : ℕ
   pub weights : (ℕ → ℕ) → ℕ
-  pub owed : ℕ
   pub refusals : ℕ
 
-abbrev pub brought_by : {H : Type 0} → (H → ℕ) → (H → (ℕ → ℕ) → ℕ) → (H → ℕ) → (H → ℕ) → H → Brought
-brought_by count weights owed refusals h = record {
-  count = count h;
-  weights = weights h;
-  owed = owed h;
-  refusals = refusals h;
-}
+abbrev pub brought_by : {H : Type 0} → (H → (ℕ → ℕ) → ℕ) → (H → ℕ) → H → Brought
+brought_by weights refusals h = record { weights = weights h; refusals = refusals h }
 
 -- the blocks that are home and a round's came to more by those that were brought, as they are counted and as they weigh
 pub record Came (from to : Brought) (old new : ℕ) (weighs weighs_now : (ℕ → ℕ) → ℕ) : Type 0 where
-  pub sum : new + from.count ≡ old + to.count
+  pub sum : new + from.weights (λ _. 1) ≡ old + to.weights (λ _. 1)
   pub named : (h : ℕ → ℕ) → weighs_now h + from.weights h ≡ weighs h + to.weights h
-  pub owed : from.owed + from.count ≤ to.owed + to.count
   pub asked : from.refusals ≤ to.refusals
 
 -- what the blocks that are home and a round's weigh

@@ -39,11 +39,11 @@ impl Intake {
         ensures fills { FillsAhead self.old.blocks self.old.budget (reached S.left S.faults reader.old)
             (reached S.left S.faults reader.new) result }
         ensures paused { IfPaused result (Lacks self.new.home self.old.blocks self.old.taken self.new.taken) }
-        ensures came { Came (brought_by H.brought H.weights H.owed H.refusals more.old)
-            (brought_by H.brought H.weights H.owed H.refusals more.new) self.old.home
+        ensures came { Came (brought_by H.weights H.refusals more.old)
+            (brought_by H.weights H.refusals more.new) self.old.home
             (self.new.home + (round_of result).blocks) (λ h. weighed h self.old.stock)
             (λ h. weighed h self.new.stock + weights_of (round_of result) h) }
-        ensures refused { H.counts ≡ true → IfPaused result (λ _.
+        ensures refused { IfPaused result (λ _.
             min (H.refusals more.old + 1) (2 ^ 64 - 1) ≤ H.refusals more.new) }
         ensures same { (self.new.blocks ≡ self.old.blocks) × (self.new.budget ≡ self.old.budget)
             × (self.new.empties ≡ self.old.empties) × (self.new.pauses ≡ self.old.pauses) }
@@ -62,8 +62,8 @@ impl Intake {
     // keeps them.
     fn bring_rest<R: Wait, H: Supply>(&mut self, rt: &R, blocks: u32, more: &mut H) -> bool
         requires few { blocks ≤ self.old.blocks }
-        ensures came { Came (brought_by H.brought H.weights H.owed H.refusals more.old)
-            (brought_by H.brought H.weights H.owed H.refusals more.new) self.old.home self.new.home
+        ensures came { Came (brought_by H.weights H.refusals more.old)
+            (brought_by H.weights H.refusals more.new) self.old.home self.new.home
             (λ h. weighed h self.old.stock) (λ h. weighed h self.new.stock) }
         ensures same { (self.new.blocks ≡ self.old.blocks) × (self.new.taken ≡ self.old.taken)
             × (self.new.budget ≡ self.old.budget) × (self.new.empties ≡ self.old.empties)
@@ -103,8 +103,8 @@ impl Intake {
             (reached S.left S.faults reader.new) paused.head paused.round.packets result.round.packets result.end }
         ensures captured { AllByRecursion IsCaptured (map packet_of result.round.packets) }
         ensures need { result.round.blocks ≡ round_need (map packet_of result.round.packets) }
-        ensures came { Came (brought_by H.brought H.weights H.owed H.refusals more.old)
-            (brought_by H.brought H.weights H.owed H.refusals more.new) (self.old.home + paused.round.blocks)
+        ensures came { Came (brought_by H.weights H.refusals more.old)
+            (brought_by H.weights H.refusals more.new) (self.old.home + paused.round.blocks)
             (self.new.home + result.round.blocks) (λ h. weighed h self.old.stock + weights_of paused.round h)
             (λ h. weighed h self.new.stock + weights_of result.round h) }
         ensures same { (self.new.blocks ≡ self.old.blocks) × (self.new.budget ≡ self.old.budget)
@@ -146,15 +146,15 @@ impl Intake {
         ensures captured { AllByRecursion IsCaptured (map packet_of result.round.packets) }
         ensures numbers { NumberedFrom (place_of reader.old).number result.round.packets }
         ensures need { result.round.blocks ≡ round_need (map packet_of result.round.packets) }
-        ensures sum { self.new.home + result.round.blocks + H.brought more.old ≡ self.old.home + H.brought more.new }
+        ensures sum { self.new.home + result.round.blocks + H.weights more.old (λ _. 1) ≡ self.old.home + H.weights more.new (λ _. 1) }
         ensures named { (h : ℕ → ℕ) → weighed h self.new.stock + weights_of result.round h + H.weights more.old h
             ≡ weighed h self.old.stock + H.weights more.new h }
         ensures within { result.round.blocks ≤ self.old.blocks }
         ensures same { (self.new.blocks ≡ self.old.blocks) × (self.new.budget ≡ self.old.budget)
             × (self.new.empties ≡ self.old.empties) }
         ensures paused { (self.new.pauses ≡ self.old.pauses)
-            ⊎ ((self.new.pauses ≡ min (self.old.pauses + 1) (2 ^ 64 - 1)) × (H.counts ≡ true
-            → min (H.refusals more.old + 1) (2 ^ 64 - 1) ≤ H.refusals more.new)) }
+            ⊎ ((self.new.pauses ≡ min (self.old.pauses + 1) (2 ^ 64 - 1))
+            × (min (H.refusals more.old + 1) (2 ^ 64 - 1) ≤ H.refusals more.new)) }
         ensures later_pauses { self.old.pauses ≤ self.new.pauses }
         ensures asked { H.refusals more.old ≤ H.refusals more.new }
         ensures budget { (1 ≤ self.old.budget) × (self.old.budget ≤ 4096) }

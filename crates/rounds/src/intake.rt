@@ -195,65 +195,24 @@ impl Intake {
 
     /// Blocks that were out come home before a round is read, for which none is needed yet. None is taken.
     pub fn bring_more<H: Supply>(&mut self, more: &mut H)
-        ensures sum { self.new.home + H.brought more.old ≡ self.old.home + H.brought more.new }
+        ensures sum { self.new.home + H.weights more.old (λ _. 1) ≡ self.old.home + H.weights more.new (λ _. 1) }
         ensures named { (h : ℕ → ℕ) → weighed h self.new.stock + H.weights more.old h
             ≡ weighed h self.old.stock + H.weights more.new h }
         ensures same { (self.new.blocks ≡ self.old.blocks) × (self.new.taken ≡ self.old.taken)
             × (self.new.budget ≡ self.old.budget) × (self.new.empties ≡ self.old.empties)
             × (self.new.pauses ≡ self.old.pauses) }
-        ensures owed { H.owed more.old + H.brought more.old ≤ H.owed more.new + H.brought more.new }
-        ensures looked { H.looks ≡ true → self.new.home ≡ self.old.home → self.old.home < self.old.blocks
+        ensures looked { self.new.home ≡ self.old.home → self.old.home < self.old.blocks
             → min (H.refusals more.old + 1) (2 ^ 64 - 1) ≤ H.refusals more.new }
         ensures asked { H.refusals more.old ≤ H.refusals more.new }
     {
-        let _enough = more.bring(&mut self.pool, 0);
+        more.look(&mut self.pool);
     }
 
-    /// As `read_round` of the rounds says it, while blocks come home. `NoMemory` also where fewer are home than the
-    /// next record needs and whoever has the others keeps them. A round takes memory for its packets.
-    pub fn read_round<S: Source, H: Supply>(
+    /// Reads a round while all blocks are home, into lists that have room for its packets and their spares, where
+    /// there was memory for these.
+    pub(crate) fn read_into<S: Source>(
         &mut self,
         reader: &mut CaptureReader<'_, S>,
-        more: &mut H,
-    ) -> RoundRead
-        requires ready { IsReady (place_of reader.old) }
-        requires link { (place_of reader.old).link ≡ Ethernet }
-        requires sure { self.old.blocks ≤ self.old.home + H.owed more.old }
-        ensures same_source { SameLoan reader.old reader.new }
-        ensures given { Told (S.left (source_of reader.old)) (S.left (source_of reader.new))
-            (GivesRound self.old.blocks (place_of reader.old) (place_of reader.new) result.round.packets result.end) }
-        ensures size { length result.round.packets ≤ self.old.budget }
-        ensures fewer { (result.end ≢ RoundEnd.Full) → (result.end ≢ RoundEnd.NoMemory)
-            → length result.round.packets < self.old.budget }
-        ensures full { result.end ≡ RoundEnd.Full → PassesRound (place_of reader.old)
-            (place_of reader.new) result.round.packets self.old.budget }
-        ensures captured { AllByRecursion IsCaptured (map packet_of result.round.packets) }
-        ensures numbers { NumberedFrom (place_of reader.old).number result.round.packets }
-        ensures need { result.round.blocks ≡ round_need (map packet_of result.round.packets) }
-        ensures sum { self.new.home + result.round.blocks + H.brought more.old ≡ self.old.home + H.brought more.new }
-        ensures named { (h : ℕ → ℕ) → weighed h self.new.stock + weights_of result.round h + H.weights more.old h
-            ≡ weighed h self.old.stock + H.weights more.new h }
-        ensures owed { H.owed more.old + H.brought more.old ≤ H.owed more.new + H.brought more.new }
-        ensures within { result.round.blocks ≤ self.old.blocks }
-        ensures same { (self.new.blocks ≡ self.old.blocks) × (self.new.budget ≡ self.old.budget)
-            × (self.new.empties ≡ self.old.empties) × (self.new.pauses ≡ self.old.pauses) }
-        ensures budget { (1 ≤ self.old.budget) × (self.old.budget ≤ 4096) }
-        ensures taken { min (self.old.taken + result.round.blocks) (2 ^ 64 - 1) ≤ self.new.taken }
-        ensures least { self.old.taken ≤ self.new.taken }
-        ensures most { self.new.taken ≤ self.old.taken + self.old.blocks }
-        ensures later { S.faults (source_of reader.old) ≤ S.faults (source_of reader.new) }
-        ensures failed { result.end ≡ RoundEnd.ReadFault
-            → Rose (S.faults (source_of reader.old)) (S.faults (source_of reader.new)) }
-    {
-        let blank = Blank::make(self.alloc, self.budget);
-        self.read_into(reader, more, blank)
-    }
-
-    /// The same, into lists that have room for the packets and their spares, where there was memory for these.
-    pub(crate) fn read_into<S: Source, H: Supply>(
-        &mut self,
-        reader: &mut CaptureReader<'_, S>,
-        more: &mut H,
         blank: Result<Blank, AllocError>,
     ) -> RoundRead
         requires ready { IsReady (place_of reader.old) }
@@ -261,16 +220,14 @@ impl Intake {
         requires none { IfOk blank (λ b. (b.packets.items ≡ []) × (home b.spares ≡ 0)) }
         requires reserved { IfOk blank (λ b. (self.old.budget ≤ b.packets.room)
             × (2 * self.old.budget ≤ b.spares.made)) }
-        requires sure { self.old.blocks ≤ self.old.home + H.owed more.old }
+        requires home { self.old.home ≡ self.old.blocks }
         ensures same_source { SameLoan reader.old reader.new }
         ensures fills { FillsWhole self.old.blocks self.old.budget (reached S.left S.faults reader.old)
             (reached S.left S.faults reader.new) result.round.packets result.end }
         ensures captured { AllByRecursion IsCaptured (map packet_of result.round.packets) }
         ensures need { result.round.blocks ≡ round_need (map packet_of result.round.packets) }
-        ensures came { Came (brought_by H.brought H.weights H.owed H.refusals more.old)
-            (brought_by H.brought H.weights H.owed H.refusals more.new) self.old.home
-            (self.new.home + result.round.blocks) (λ h. weighed h self.old.stock)
-            (λ h. weighed h self.new.stock + weights_of result.round h) }
+        ensures home { self.new.home + result.round.blocks ≡ self.old.blocks }
+        ensures named { (h : ℕ → ℕ) → weighed h self.new.stock + weights_of result.round h ≡ weighed h self.old.stock }
         ensures unread { OnErr blank (self.new ≡ self.old) }
         ensures same { (self.new.blocks ≡ self.old.blocks) × (self.new.budget ≡ self.old.budget)
             × (self.new.empties ≡ self.old.empties) × (self.new.pauses ≡ self.old.pauses) }
@@ -290,7 +247,6 @@ impl Intake {
             &mut self.pool,
             &mut self.hold,
             reader,
-            more,
             self.budget as usize,
             &mut packets,
             &mut spares,
@@ -323,11 +279,11 @@ impl Intake {
         ensures fills { FillsAhead self.old.blocks self.old.budget (reached S.left S.faults reader.old)
             (reached S.left S.faults reader.new) result }
         ensures paused { IfPaused result (Lacks self.new.home self.old.blocks self.old.taken self.new.taken) }
-        ensures refused { H.counts ≡ true → IfPaused result (λ _.
+        ensures refused { IfPaused result (λ _.
             min (H.refusals more.old + 1) (2 ^ 64 - 1) ≤ H.refusals more.new) }
         ensures spent { (lists.new.packets.items ≡ []) × (home lists.new.spares ≡ 0) }
-        ensures came { Came (brought_by H.brought H.weights H.owed H.refusals more.old)
-            (brought_by H.brought H.weights H.owed H.refusals more.new) self.old.home
+        ensures came { Came (brought_by H.weights H.refusals more.old)
+            (brought_by H.weights H.refusals more.new) self.old.home
             (self.new.home + (round_of result).blocks) (λ h. weighed h self.old.stock)
             (λ h. weighed h self.new.stock + weights_of (round_of result) h) }
         ensures same { (self.new.blocks ≡ self.old.blocks) × (self.new.budget ≡ self.old.budget)

@@ -72,12 +72,11 @@ pub(crate) fn read_more<S: Source, H: Supply>(
         × WaitsOver (place_of reader.old) (place_of reader.new) (S.left (source_of reader.old))
         (S.left (source_of reader.new)) packets.old.items packets.new.items head
         × (home pool.new < need_of head.captured) × (result.0 + need_of head.captured ≤ pool.old.made) }
-    ensures refused { H.counts ≡ true → result.1 ≡ Halt.Lacking
+    ensures refused { result.1 ≡ Halt.Lacking
         → min (H.refusals more.old + 1) (2 ^ 64 - 1) ≤ H.refusals more.new }
-    ensures short { result.1 ≡ Halt.Lacking → H.ended more.new ≡ false → H.owed more.new ≡ 0 }
     ensures round { IsRoundOf packets.new.items (home spares.new) result.0 }
-    ensures came { Came (brought_by H.brought H.weights H.owed H.refusals more.old)
-        (brought_by H.brought H.weights H.owed H.refusals more.new) (home pool.old + used) (home pool.new + result.0)
+    ensures came { Came (brought_by H.weights H.refusals more.old)
+        (brought_by H.weights H.refusals more.new) (home pool.old + used) (home pool.new + result.0)
         (at_hand pool.old packets.old.items spares.old) (at_hand pool.new packets.new.items spares.new) }
     ensures made { pool.new.made ≡ pool.old.made }
     ensures takes { Takes pool.old.made pool.old.taken pool.new.taken used result.0 }
@@ -152,7 +151,7 @@ pub(crate) fn read_behind<S: Source>(
         Err(stop) => return (used, end_of(stop)),
     };
     let used = used + count;
-    let (more, kept) = (&mut AllHome, &mut None);
+    let (more, kept) = (&mut AllHome::new(), &mut None);
     let (blocks, halt) = read_more(
         alloc, pool, hold, reader, more, kept, budget, packets, spares, used,
     );
@@ -162,14 +161,13 @@ pub(crate) fn read_behind<S: Source>(
     }
 }
 
-/// Reads the records of a round, up to `budget` of them: the blocks that they have, and why there are no more.
-/// `NoMemory` also where blocks are wanted that are out, and whoever has them keeps them.
-pub(crate) fn read_records<S: Source, H: Supply>(
+/// Reads the records of a round, up to `budget` of them, while all blocks are home: the blocks that they have, and why
+/// there are no more.
+pub(crate) fn read_records<S: Source>(
     alloc: Global,
     pool: &mut Pool,
     hold: &mut VecDeque<Sole>,
     reader: &mut CaptureReader<'_, S>,
-    more: &mut H,
     budget: usize,
     packets: &mut Packets,
     spares: &mut Pool,
@@ -181,25 +179,23 @@ pub(crate) fn read_records<S: Source, H: Supply>(
     requires none { (packets.old.items ≡ []) × (home spares.old ≡ 0) }
     requires reserved { budget ≤ packets.old.room }
     requires room { 2 * budget ≤ spares.old.made }
-    requires sure { pool.old.made ≤ home pool.old + H.owed more.old }
+    requires home { home pool.old ≡ pool.old.made }
     ensures same_source { SameLoan reader.old reader.new }
     ensures fills { FillsWhole pool.old.made budget (reached S.left S.faults reader.old)
         (reached S.left S.faults reader.new) packets.new.items result.1 }
     ensures round { IsRoundOf packets.new.items (home spares.new) result.0 }
-    ensures came { Came (brought_by H.brought H.weights H.owed H.refusals more.old)
-        (brought_by H.brought H.weights H.owed H.refusals more.new) (home pool.old) (home pool.new + result.0)
-        (λ h. weighed h pool.old.blocks) (at_hand pool.new packets.new.items spares.new) }
+    ensures home { home pool.new + result.0 ≡ pool.old.made }
+    ensures named { (h : ℕ → ℕ) → at_hand pool.new packets.new.items spares.new h ≡ weighed h pool.old.blocks }
     ensures made { pool.new.made ≡ pool.old.made }
     ensures takes { Takes pool.old.made pool.old.taken pool.new.taken 0 result.0 }
     ensures hold { IsHold hold.new.items (deque_capacity hold.new) }
 {
-    let kept = &mut None;
+    let (more, kept) = (&mut AllHome::new(), &mut None);
     let (blocks, halt) = read_more(
         alloc, pool, hold, reader, more, kept, budget, packets, spares, 0,
     );
     match halt {
         Halt::Ended(end) => (blocks, end),
-        Halt::Lacking if more.has_ended() => (blocks, RoundEnd::NoMemory),
         Halt::Lacking => unreachable!(),
     }
 }

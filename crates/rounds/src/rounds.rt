@@ -27,7 +27,6 @@ use crate::bench::Bench;
 use crate::handler::RoundHandler;
 use crate::intake::Intake;
 use crate::round::{Rest, Round, RoundEnd, RoundRead, Worked};
-use block_supply::AllHome;
 use lanes::{LanePlan, Works};
 use off_io::{Sink, Source, WriteFault};
 use pcap_io::{CaptureReader, FileHead};
@@ -178,7 +177,7 @@ impl Rounds {
             → Rose (S.faults (source_of reader.old)) (S.faults (source_of reader.new)) }
     {
         let blank = self.bench.take_blank();
-        self.intake.read_into(reader, &mut AllHome, blank)
+        self.intake.read_into(reader, blank)
     }
 
     /// Works a round: queue by queue what the runs of its flows come to, in the order of their first packets, and tap

@@ -221,7 +221,7 @@ impl SegmentRun {
             &mut self.hold,
             &mut self.spares,
             reader,
-            &mut AllHome,
+            &mut AllHome::new(),
             &mut None,
             &mut front,
             0,

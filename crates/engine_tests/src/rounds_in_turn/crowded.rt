@@ -95,11 +95,14 @@ fn crowded<R: Wait + Abort>(rt: &R, alloc: Global) -> (Crowded, Vec<u8>) {
     } = rounds_of_one(rt, alloc, 6);
     let (lists, mut pass, giver) = one_place(alloc).expect(rt, "no memory");
     let mut giver = Some(giver);
-    let read = full(rt, intake.read_round(&mut reader, &mut AllHome));
+    let read = full(rt, intake.read_beside(rt, &mut reader, &mut AllHome::new()));
     let (first, one) = put(rt, alloc, &mut bench, read, &file, &mut sink, 0, &mut giver);
-    let read = full(rt, intake.read_round(&mut reader, &mut NoneComes));
+    let read = full(
+        rt,
+        intake.read_beside(rt, &mut reader, &mut NoneComes::new()),
+    );
     let (second, two) = put(rt, alloc, &mut bench, read, &file, &mut sink, 1, &mut giver);
-    let last = intake.read_round(&mut reader, &mut NoneComes);
+    let last = intake.read_beside(rt, &mut reader, &mut NoneComes::new());
     let (third, three) = put(rt, alloc, &mut bench, last, &file, &mut sink, 2, &mut giver);
     let homes = [one.home(), two.home(), three.home()];
     let puts = counts(giver);

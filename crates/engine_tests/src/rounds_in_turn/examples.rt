@@ -35,7 +35,7 @@ fn example_of_reading(rt: HostRuntime) -> Result<(), Fail> {
         &mut hold,
         &mut spares,
         &mut reader,
-        &mut AllHome,
+        &mut AllHome::new(),
         &mut kept,
         &mut [],
         0,

@@ -1,5 +1,5 @@
 //! One side reads and the other works, in turn, over as few blocks as a round needs.
-ghost use Rattle.std.specs.Prelude.{◌≡◌, ℕ, ◌+◌, ◌-◌, ◌≤◌, List, [], length};
+ghost use Rattle.std.specs.Prelude.{◌≡◌, ℕ, ◌+◌, ◌-◌, ◌≤◌, List, []};
 ghost use Rattle.raw_block.specs.Views.{SoleState};
 ghost use Rattle.block_pool.specs.PoolState.{home, weighed};
 ghost use Rattle.pcap_io.specs.declared.heads.Link.TheVariants.{Ethernet};
@@ -18,6 +18,7 @@ use rounds::{Bench, Intake, MergeEnd, RoundEnd, RoundRead, Rounds, Step};
 use std::alloc::Global;
 use std::marker::{Brand, PhantomData};
 use std::process::Abort;
+use std::sync::Wait;
 use worked_captures::{TWO_RECORDS, WRITTEN};
 
 // The blocks that were on a shelf at first: the call that lends it says them.
@@ -29,36 +30,33 @@ impl Stocked for Brand {
     ghost stock = { [] };
 }
 
-// A shelf of blocks, which come home at once.
+// A shelf of blocks, which come home at once, and how often it was asked for them.
 #[derive(Drop)]
 struct Shelf<N: Stocked> {
     pool: Pool,
+    refused: u64,
     of: PhantomData<N>,
-    ghost few: { home pool ≤ length N.stock },
     ghost weighs: { (h : ℕ → ℕ) → weighed h pool.blocks ≤ weighed h N.stock },
 }
 
 impl<N: Stocked> Supply for Shelf<N> {
-    ghost use Rattle.std.specs.Prelude.{false, true};
-
-    ghost brought = { λ s. length N.stock - home s.pool };
+    ghost use Rattle.std.specs.Prelude.{true};
 
     ghost weights = { λ s h. weighed h N.stock - weighed h s.pool.blocks };
 
-    ghost counts = { false };
-
-    ghost refusals = { λ _. 0 };
-
-    ghost looks = { false };
-
-    ghost owed = { λ s. home s.pool };
+    ghost refusals = { λ s. s.refused };
 
     ghost ended = { λ _. true };
 
     fn bring(&mut self, pool: &mut Pool, need: u32) -> bool {
+        self.look(pool);
+        need <= pool.home()
+    }
+
+    fn look(&mut self, pool: &mut Pool) {
         let _ = pool.home();
         pool.refill(&mut self.pool);
-        need <= pool.home()
+        self.refused = self.refused.saturating_add(1);
     }
 
     // What came is all that comes.
@@ -67,29 +65,34 @@ impl<N: Stocked> Supply for Shelf<N> {
     }
 }
 
-/// Whoever has the blocks that are out keeps them, however many these are.
+/// Whoever has the blocks that are out keeps them, however many these are, and counts how often they were wanted.
 #[derive(Drop)]
-pub(crate) struct NoneComes;
+pub(crate) struct NoneComes {
+    refused: u64,
+}
+
+impl NoneComes {
+    pub(crate) fn new() -> NoneComes {
+        NoneComes { refused: 0 }
+    }
+}
 
 impl Supply for NoneComes {
-    ghost use Rattle.std.specs.Prelude.{false, true};
-
-    ghost brought = { λ _. 0 };
+    ghost use Rattle.std.specs.Prelude.{true};
 
     ghost weights = { λ _ _. 0 };
 
-    ghost counts = { false };
-
-    ghost refusals = { λ _. 0 };
-
-    ghost looks = { false };
-
-    ghost owed = { λ _. 65536 };
+    ghost refusals = { λ n. n.refused };
 
     ghost ended = { λ _. true };
 
     fn bring(&mut self, pool: &mut Pool, need: u32) -> bool {
+        self.look(pool);
         need <= pool.home()
+    }
+
+    fn look(&mut self, _pool: &mut Pool) {
+        self.refused = self.refused.saturating_add(1);
     }
 
     fn has_ended(&self) -> bool {
@@ -126,7 +129,8 @@ pub(crate) fn room_of(rt: &impl Abort, alloc: Global, bench: &mut Bench) -> Pool
 }
 
 // A round is read while the blocks of a shelf come home.
-fn read_beside<N: Stocked, S: Source>(
+fn read_beside<N: Stocked, R: Wait, S: Source>(
+    rt: &R,
     intake: &mut Intake,
     reader: &mut CaptureReader<'_, S>,
     pool: Pool,
@@ -134,7 +138,6 @@ fn read_beside<N: Stocked, S: Source>(
     requires ready { IsReady (place_of reader.old) }
     requires link { (place_of reader.old).link ≡ Ethernet }
     requires stock { pool.blocks ≡ N.stock }
-    requires sure { intake.old.blocks ≤ intake.old.home + home pool }
     ensures same_source { SameLoan reader.old reader.new }
     ensures full { result.0.end ≡ RoundEnd.Full → PassesRound (place_of reader.old)
         (place_of reader.new) result.0.round.packets intake.old.budget }
@@ -144,22 +147,27 @@ fn read_beside<N: Stocked, S: Source>(
 {
     let mut shelf = Shelf::<N> {
         pool,
+        refused: 0,
         of: PhantomData,
     };
-    let read = intake.read_round(reader, &mut shelf);
-    let Shelf { pool, of: _ } = shelf;
+    let read = intake.read_beside(rt, reader, &mut shelf);
+    let Shelf {
+        pool,
+        refused: _,
+        of: _,
+    } = shelf;
     (read, pool)
 }
 
 // The same, by a call that says which blocks these are.
-fn read_shelved<S: Source>(
+fn read_shelved<R: Wait, S: Source>(
+    rt: &R,
     intake: &mut Intake,
     reader: &mut CaptureReader<'_, S>,
     pool: Pool,
 ) -> (RoundRead, Pool)
     requires ready { IsReady (place_of reader.old) }
     requires link { (place_of reader.old).link ≡ Ethernet }
-    requires sure { intake.old.blocks ≤ intake.old.home + home pool }
     ensures same_source { SameLoan reader.old reader.new }
     ensures full { result.0.end ≡ RoundEnd.Full → PassesRound (place_of reader.old)
         (place_of reader.new) result.0.round.packets intake.old.budget }
@@ -167,7 +175,7 @@ fn read_shelved<S: Source>(
     ensures within { result.0.round.blocks ≤ intake.old.blocks }
     ensures same { intake.new.blocks ≡ intake.old.blocks }
 {
-    read_beside::<Brand, S>(intake, reader, pool)
+    read_beside::<Brand, R, S>(rt, intake, reader, pool)
 }
 
 // A round is worked and written: what came of it, and a shelf with its blocks.
@@ -193,7 +201,7 @@ fn put(
 // Both records in rounds of one, over blocks for one: what came of the rounds, and what was written; the blocks that
 // are home where rounds are read once the first was put on a shelf, that lie on the shelf, that are home once the
 // second was read, and at last.
-fn in_turn(rt: &impl Abort, alloc: Global) -> ([Step; 3], Vec<u8>, [u32; 4]) {
+fn in_turn<R: Wait + Abort>(rt: &R, alloc: Global) -> ([Step; 3], Vec<u8>, [u32; 4]) {
     let mut feed = feed_of(rt, alloc, &TWO_RECORDS, 24, &[]);
     let mut reader = reader_of(rt, &mut feed, Link::Ethernet);
     let file = reader.file();
@@ -202,15 +210,15 @@ fn in_turn(rt: &impl Abort, alloc: Global) -> ([Step; 3], Vec<u8>, [u32; 4]) {
         mut intake,
         mut bench,
     } = rounds_of_one(rt, alloc, 3);
-    let round = full(rt, intake.read_round(&mut reader, &mut AllHome));
+    let round = full(rt, intake.read_beside(rt, &mut reader, &mut AllHome::new()));
     let (first, one) = put(rt, alloc, &mut bench, round, &file, &mut sink, 0);
     let (given, put_home) = (intake.home(), one.home());
-    let (read, one) = read_shelved(&mut intake, &mut reader, one);
+    let (read, one) = read_shelved(rt, &mut intake, &mut reader, one);
     let round = full(rt, read);
     let read = intake.home();
     intake.bring_in(one);
     let (second, two) = put(rt, alloc, &mut bench, round, &file, &mut sink, 1);
-    let (last, two) = read_shelved(&mut intake, &mut reader, two);
+    let (last, two) = read_shelved(rt, &mut intake, &mut reader, two);
     let (third, three) = put(rt, alloc, &mut bench, last, &file, &mut sink, 2);
     let shelved = two.home().saturating_add(three.home());
     (
@@ -242,15 +250,15 @@ fn dropped(rt: &impl Abort, alloc: Global, bench: &mut Bench, read: RoundRead) -
 
 // A round is read while all blocks are out, of which none comes home: why it has no more records, and the blocks that
 // are home then, and once the round before was dropped.
-fn lacking(rt: &impl Abort, alloc: Global) -> (RoundEnd, u32, u32) {
+fn lacking<R: Wait + Abort>(rt: &R, alloc: Global) -> (RoundEnd, u32, u32) {
     let mut feed = feed_of(rt, alloc, &TWO_RECORDS, 24, &[]);
     let mut reader = reader_of(rt, &mut feed, Link::Ethernet);
     let Rounds {
         mut intake,
         mut bench,
     } = rounds_of_one(rt, alloc, 3);
-    let first = full(rt, intake.read_round(&mut reader, &mut AllHome));
-    let RoundRead { round, end } = intake.read_round(&mut reader, &mut NoneComes);
+    let first = full(rt, intake.read_beside(rt, &mut reader, &mut AllHome::new()));
+    let RoundRead { round, end } = intake.read_beside(rt, &mut reader, &mut NoneComes::new());
     round.discard();
     let home = intake.home();
     (end, home, dropped(rt, alloc, &mut bench, first))

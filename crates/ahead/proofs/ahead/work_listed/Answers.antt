@@ -1,5 +1,10 @@
-use Rattle.std.proofs.Common.{◌≡◌, ℕ, All, Result, Ok, Err, IsErr, MatchResult, IfOk, ◌+◌, map, ap, subst, arith}
+use Rattle.std.proofs.Common.{◌≡◌, ◌≤◌, ◌∙◌, ℕ, All, Result, Ok, Err, IsErr, MatchResult, IfOk, IfErr, ◌+◌, map, ap, subst, arith}
 use Rattle.std.proofs.lemmas.Bool.{false≢true}
+use Rattle.block_pool.specs.Giving.{given_by, given_in}
+use Rattle.block_pool.specs.Listed.{blocks_in}
+use Rattle.block_pool.specs.PoolState.{home}
+use Rattle.block_supply.proofs.Listing.{listed_ones}
+use Rattle.block_supply.specs.declared.taker.Taker.{Taker}
 use Rattle.offload_model.specs.Written.{round_records}
 use Rattle.gro.specs.Slots.{packet_of}
 use Rattle.lanes.specs.Lanes.{IsMerged}
@@ -7,8 +12,12 @@ use Rattle.rounds.specs.Benches.{options_at}
 use Rattle.rounds.specs.Filling.{reached, FillsAhead}
 use Rattle.rounds.specs.Lanes.{worked_records, IsKeptWorkOf, WorksAs}
 use Rattle.rounds.specs.Merging.{options_of}
-use Rattle.rounds.specs.RoundsState.{BenchState, RestState, RoundsState, WorkedState}
+use Rattle.rounds.specs.Ahead.{round_of}
+use Rattle.rounds.specs.RoundsState.{BenchState, IntakeState, RestState, RoundsState, WorkedState}
 use Rattle.rounds.proofs.Pausing.{unread_ahead}
+use Rattle.ahead.specs.Out.{blocks_out}
+use Rattle.ahead.proofs.ahead.work_listed.Given as given
+use Rattle.ahead.proofs.ahead.work_listed.Goals.{After-work_beside-read}
 use Rattle.ahead.proofs.ahead.work_listed.Goals as goal
 
 -- what is so of what was worked is so of the answer
@@ -22,6 +31,78 @@ closed_empties : (worked : Result WorkedState RestState) (old new : RoundsState)
     → MatchResult worked (λ _. new ≡ old) (λ rest. new ≡ record old { home = old.home + rest.blocks; stock = new.stock }) → new.empties ≡ old.empties
 closed_empties (Ok w) old new is = ap (λ (s : RoundsState). s.empties) is
 closed_empties (Err rest) old new is = ap (λ (s : RoundsState). s.empties) is
+
+-- of its blocks those that weren't given are out, or come home
+closed_home : {E : Type 0} (blocks from given : ℕ) (worked : Result WorkedState RestState) (result : Result WorkedState E) (old new : RoundsState) → MatchResult worked (λ w. result ≡ Ok w) (λ _. IsErr result)
+    → MatchResult worked (λ _. new ≡ old) (λ rest. new ≡ record old { home = old.home + rest.blocks; stock = new.stock }) → IfOk worked (λ w. w.blocks + given ≡ blocks + from)
+    → IfErr worked (λ r. r.blocks + given ≡ blocks + from) → new.home + blocks_out result + given ≡ old.home + blocks + from
+closed_home blocks from given (Ok w) result old new is same out rest = omega (arith, ap (λ (s : RoundsState). s.home) same, ap blocks_out is, out)
+closed_home blocks from given (Err r) (Ok w) old new is same out rest = absurd (false≢true is)
+closed_home blocks from given (Err r) (Err e) old new is same out rest = omega (arith, ap (λ (s : RoundsState). s.home) same, rest)
+
+lent_within : (blocks from given : ℕ) (worked : Result WorkedState RestState) → IfOk worked (λ w. w.blocks + given ≡ blocks + from) → IfErr worked (λ r. r.blocks + given ≡ blocks + from) → given ≤ blocks + from
+lent_within blocks from given (Ok w) out rest = omega (arith, out)
+lent_within blocks from given (Err r) out rest = omega (arith, rest)
+
+rest_within : (blocks from given home made : ℕ) (worked : Result WorkedState RestState) → IfErr worked (λ r. r.blocks + given ≡ blocks + from) → home + blocks + from ≤ made + given
+    → IfErr worked (λ r. home + r.blocks ≤ made)
+rest_within blocks from given home made (Ok w) rest fits = tt
+rest_within blocks from given home made (Err r) rest fits = omega (arith, rest, fits)
+
+-- what came home of lists, by their number
+came_listed : (g : given.Over) (c : After-work_beside-read g) → c.work_beside-read.new.intake.home + (round_of c.work_beside-read.result.0).blocks + home c.work_beside-read.new.more.taker.left
+    ≡ c.rounds.inside.intake.home + blocks_in c.work_beside-read.new.more.taker.pass.taken
+came_listed g c =
+    let w = c.work_beside-read in
+    let more = w.new.more.taker in
+    let old = c.new-more.result.taker in
+    let none = ap (λ (t : Taker). blocks_in t.pass.taken) c.new-more.ensures.same ∙ ap blocks_in c.requires.untaken.0 in
+    omega (arith, w.ensures.came.sum, listed_ones more.pass more.left, listed_ones old.pass old.left, more.counted, none)
+
+pub bring_lists-requires-clause-room : goal.bring_lists-requires-clause-room
+bring_lists-requires-clause-room g c =
+    let w = c.work_beside-read in
+    omega (
+      arith,
+      came_listed g (goal.at.bring_lists-requires-clause-room g c).After-work_beside-read,
+      lent_within c.args.round.blocks (given_in c.args.giver) (given_by w.new.giver) w.result.1 w.ensures.lends.worked w.ensures.lends.rest,
+      ap blocks_in c.requires.ungiven.1,
+      c.requires.out,
+      ap (λ (s : RoundsState). s.home) c.rounds.view_is,
+      ap (λ (s : RoundsState). s.blocks) c.rounds.view_is,
+      w.ensures.intake.0,
+    )
+
+pub close_work-requires : goal.close_work-requires
+close_work-requires g c =
+    let w = c.work_beside-read in
+    record {
+      out = rest_within c.args.round.blocks (given_in c.args.giver) (given_by w.new.giver) c.bring_lists.new.intake.home c.bring_lists.new.intake.blocks w.result.1 w.ensures.lends.rest (omega (
+        arith,
+        came_listed g (goal.at.close_work-requires g c).After-work_beside-read,
+        c.bring_lists.ensures.home,
+        ap (λ (s : IntakeState). s.blocks) c.bring_lists.ensures.same,
+        ap blocks_in c.requires.ungiven.1,
+        c.requires.out,
+        ap (λ (s : RoundsState). s.home) c.rounds.view_is,
+        ap (λ (s : RoundsState). s.blocks) c.rounds.view_is,
+        w.ensures.intake.0,
+      ));
+    }
+
+pub returns-clause-home : goal.returns-clause-home
+returns-clause-home g c =
+    let w = c.work_beside-read in
+    omega (
+      arith,
+      came_listed g (goal.at.returns-clause-home g c).After-work_beside-read,
+      c.bring_lists.ensures.home,
+      closed_home c.args.round.blocks (given_in c.args.giver) (given_by w.new.giver) w.result.1 _ _ c.close_work.new.rounds c.close_work.ensures.worked c.close_work.ensures.home w.ensures.lends.worked w.ensures.lends.rest,
+      ap blocks_in c.requires.ungiven.1,
+      c.requires.out,
+      ap (λ (s : RoundsState). s.home) c.rounds.view_is,
+      ap (λ (s : RoundsState). s.blocks) c.rounds.view_is,
+    )
 
 pub returns-in_default-clause-fills : goal.returns-in_default-clause-fills
 returns-in_default-clause-fills g c =

@@ -1,4 +1,4 @@
-use Rattle.std.proofs.Common.{◌≡◌, ◌∙◌, ◌∷◌, ◌+◌, ◌++◌, [], ℕ, List, true, ap, sym, subst, refl, arith, length, length-append, append-nil}
+use Rattle.std.proofs.Common.{◌≡◌, ◌∙◌, ◌∷◌, ◌+◌, ◌++◌, [], ℕ, List, ap, sym, subst, refl, arith, length, length-append, append-nil}
 use Rattle.rtrb.specs.Ring.{sent, SameProducer}
 use Rattle.pipeline.specs.declared.parcel.Parcel.{Parcel}
 use Rattle.block_supply.specs.Lists.{listed_home, weights_home}
@@ -10,7 +10,7 @@ use Rattle.crossing.specs.declared.desk.Desk.{Desk}
 use Rattle.crossing.specs.declared.post.Post.{Ghosts}
 use Rattle.rounds.specs.RoundsState.{IntakeState}
 use Rattle.rounds.specs.Weights.{weights_of}
-use Rattle.pipeline.proofs.Counting.{least_equal, least_same, least_then, most_same, number_more, packets_more, read_more, read_stopped}
+use Rattle.pipeline.proofs.Counting.{counted_to, least_equal, least_same, least_then, most_same, number_more, packets_more, read_more, read_stopped}
 use Rattle.pipeline.proofs.Kept.{producer_then}
 use Rattle.rounds.specs.Reads.{reader_at, Reads, Spot}
 use Rattle.rounds.proofs.Going.{few_later, few_none, few_paused}
@@ -76,7 +76,8 @@ all_read g c =
             }));
       };
       sum = read_more l.intake.home (blocks_of (sent l.supply.out)) (brought_to c.args.supply.now.desk) c.args.intake.now.home (blocks_of (sent c.args.supply.now.out)) (brought_to l.supply.desk)
-          c.bring_more.new.self.home c.read_beside-read.new.self.home c.read_beside-read.result.round.blocks (brought_to c.bring_more.new.more) e.sum (ap (λ t. listed_home t.pass t.left) w) b.sum r.sum
+          c.bring_more.new.self.home c.read_beside-read.new.self.home c.read_beside-read.result.round.blocks (brought_to c.bring_more.new.more) e.sum (ap (λ t. listed_home t.pass t.left) w)
+          (counted_to c.await_place.new.self c.bring_more.new.more _ _ b.sum) (counted_to c.bring_more.new.more c.read_beside-read.new.more _ _ r.sum)
           (ap (λ t. listed_home t.pass t.left) d) (ap blocks_of s ∙ blocks_last (sent l.supply.out) (parcel g c));
       named = λ h.
           read_more (weighed h l.intake.stock) (weights_sent h (sent l.supply.out)) (weights_to c.args.supply.now.desk h) (weighed h c.args.intake.now.stock) (weights_sent h (sent c.args.supply.now.out))
@@ -84,7 +85,7 @@ all_read g c =
           (ap (λ t. weights_home h t.pass t.left) w) (b.named h) (r.named h) (ap (λ t. weights_home h t.pass t.left) d)
           (ap (weights_sent h) s ∙ weights_sent_append h (sent l.supply.out) (parcel g c ∷ []));
       paused = few_later _ _ _ _ _ _
-          (few_paused true refl _ _ _ _ _ _ (few_later _ _ _ _ _ _ e.paused (most_same _ _ _ (sym (ap (λ t. t.pass.empties) w)) b.asked) b.same.4) r.asked r.later_pauses r.paused)
+          (few_paused _ _ _ _ _ _ (few_later _ _ _ _ _ _ e.paused (most_same _ _ _ (sym (ap (λ t. t.pass.empties) w)) b.asked) b.same.4) r.asked r.later_pauses r.paused)
           (least_equal _ _ (ap (λ t. t.pass.empties) d)) refl;
       same = (r.same.0 ∙ b.same.0 ∙ e.same.0, r.same.1 ∙ b.same.2 ∙ e.same.1, r.same.2 ∙ b.same.3 ∙ e.same.2);
       later = least_then _ _ _ e.later r.later;
@@ -106,7 +107,8 @@ returns-then-has_stopped-clause-read g c =
       };
       sum = ap (λ (n : ℕ). c.bring_more.new.self.home + n + brought_to c.args.supply.now.desk) (ap blocks_of s)
           ∙ read_stopped l.intake.home (blocks_of (sent l.supply.out)) (brought_to c.args.supply.now.desk) c.args.intake.now.home (blocks_of (sent c.args.supply.now.out)) (brought_to l.supply.desk)
-          c.bring_more.new.self.home (brought_to c.bring_more.new.more) e.sum (ap (λ t. listed_home t.pass t.left) w) b.sum;
+          c.bring_more.new.self.home (brought_to c.bring_more.new.more) e.sum (ap (λ t. listed_home t.pass t.left) w)
+          (counted_to c.await_place.new.self c.bring_more.new.more _ _ b.sum);
       named = λ h.
           ap (λ (n : ℕ). weighed h c.bring_more.new.self.stock + n + weights_to c.args.supply.now.desk h) (ap (weights_sent h) s)
           ∙ read_stopped (weighed h l.intake.stock) (weights_sent h (sent l.supply.out)) (weights_to c.args.supply.now.desk h) (weighed h c.args.intake.now.stock)

@@ -1,5 +1,6 @@
 use Rattle.std.proofs.Common.{◌≡◌, ◌+◌, ◌-◌, ◌^◌, ◌≤◌, ◌∙◌, ℕ, arith, min, refl, sym, ap, subst, le_trans, le-add_left, Ok, Err}
 use Rattle.block_pool.specs.PoolState.{home}
+use Rattle.block_supply.proofs.Listing.{home_by_ones}
 use Rattle.reading.proofs.Recording.{head_stop_given, head_given, end_given, empty_given, lacking_given, record_given, none_from, keeps_head, never_lacking, entered, not_lacking, no_stop, rose_after, stop_in}
 use Rattle.pcap_io.specs.declared.heads.Link.{Link}
 use Rattle.pcap_io.specs.Headers.{is_bad_original}
@@ -15,10 +16,7 @@ pub returns-in-Err-clause-kept : goal.returns-in-Err-clause-kept
 returns-in-Err-clause-kept g c = λ lacks. absurd (never_lacking _ c.in-Err.fault c.stop_of.result refl c.stop_of.ensures.stop lacks)
 
 pub returns-in-Err-clause-refused : goal.returns-in-Err-clause-refused
-returns-in-Err-clause-refused g c = λ counts lacks. absurd (never_lacking _ c.in-Err.fault c.stop_of.result refl c.stop_of.ensures.stop lacks)
-
-pub returns-in-Err-clause-short : goal.returns-in-Err-clause-short
-returns-in-Err-clause-short g c = λ lacks. absurd (never_lacking _ c.in-Err.fault c.stop_of.result refl c.stop_of.ensures.stop lacks)
+returns-in-Err-clause-refused g c = λ lacks. absurd (never_lacking _ c.in-Err.fault c.stop_of.result refl c.stop_of.ensures.stop lacks)
 
 pub returns-in_default-clause-given : goal.returns-in_default-clause-given
 returns-in_default-clause-given g c =
@@ -54,11 +52,11 @@ returns-then-not-has_blocks-clause-kept g c = λ _.
     )
 
 pub returns-then-not-has_blocks-clause-refused : goal.returns-then-not-has_blocks-clause-refused
-returns-then-not-has_blocks-clause-refused g c = λ counts _.
-    c.has_blocks.ensures.refused counts (le_trans (le-add_left _ _) (subst (λ (n : ℕ). c.args.used + (c.blocks_of-count.result + 2) ≤ n) c.made.ensures.made c.if-need-made.false)) c.if-not-has_blocks.true
+returns-then-not-has_blocks-clause-refused g c = λ _.
+    c.has_blocks.ensures.refused (le_trans (le-add_left _ _) (subst (λ (n : ℕ). c.args.used + (c.blocks_of-count.result + 2) ≤ n) c.made.ensures.made c.if-need-made.false)) c.if-not-has_blocks.true
 
-pub returns-then-not-has_blocks-clause-short : goal.returns-then-not-has_blocks-clause-short
-returns-then-not-has_blocks-clause-short g c = λ _. c.has_blocks.ensures.short c.if-not-has_blocks.true
+pub returns-then-not-has_blocks-clause-back : goal.returns-then-not-has_blocks-clause-back
+returns-then-not-has_blocks-clause-back g c = (home_by_ones _ _ c.args.pool.now.blocks c.has_blocks.new.pool.blocks (c.has_blocks.ensures.named (λ _. 1)), refl)
 
 pub returns-then-not-has_blocks-clause-named_back : goal.returns-then-not-has_blocks-clause-named_back
 returns-then-not-has_blocks-clause-named_back g c = λ h. (c.has_blocks.ensures.named h, refl)
@@ -95,7 +93,7 @@ returns-in-Ok-finish_record g c =
     let f = c.finish_record.new in
     let e = c.in-Ok-finish_record.ensures in
     let more = c.has_blocks.ensures in
-    let brought = g.H.Supply.brought c.args.more.now in
+    let brought = g.H.Supply.weights c.args.more.now (λ _. 1) in
     let keeps = keeps_head old c.next_head.new.self.place c.in-Ok.found c.in-Some.head c.in-Some.is c.requires.ready r.enters r.limit r.original r.off_head r.counted in
     let enters = keeps.enters in
     let fits = subst (λ (n : ℕ). c.args.used + (c.blocks_of-count.result + 2) ≤ n) c.made.ensures.made c.if-need-made.false in
@@ -111,10 +109,8 @@ returns-in-Ok-finish_record g c =
       none = tt;
       kept = λ lacks. absurd (not_lacking _ refl lacks);
       unkept = λ _. refl;
-      refused = λ _ lacks. absurd (not_lacking _ refl lacks);
+      refused = λ lacks. absurd (not_lacking _ refl lacks);
       asked = more.asked;
-      owed = more.owed;
-      short = λ lacks. absurd (not_lacking _ refl lacks);
       room = e.room;
       number = λ p is. e.number p is ∙ enters.numbered;
       original = λ p is. ap (λ (l : Link). is_bad_original l p.original) (sym enters.link) ∙ e.original p is;
@@ -125,7 +121,7 @@ returns-in-Ok-finish_record g c =
       captured = λ p is plain. e.captured p is (enters.link ∙ plain);
       need = e.need;
       count = λ p is. e.count.1 p is ∙ count;
-      home = ap (λ (n : ℕ). home f.pool + n + brought) (sym count) ∙ ap (λ (n : ℕ). n + brought) e.home ∙ more.sum;
+      home = ap (λ (n : ℕ). home f.pool + n + brought) (sym count) ∙ ap (λ (n : ℕ). n + brought) e.home ∙ home_by_ones _ _ c.args.pool.now.blocks c.has_blocks.new.pool.blocks (more.named (λ _. 1));
       spares = e.spares;
       named = λ p is h. moved_on _ _ _ _ _ _ (e.named p is h) (more.named h);
       fits = fits;
@@ -161,10 +157,8 @@ returns-in-Err-finish_record g c =
       none = e.none;
       kept = λ lacks. absurd (e.begun (ap Err (ap stop_in lacks)));
       unkept = λ _. refl;
-      refused = λ _ lacks. absurd (e.begun (ap Err (ap stop_in lacks)));
+      refused = λ lacks. absurd (e.begun (ap Err (ap stop_in lacks)));
       asked = more.asked;
-      owed = more.owed;
-      short = λ lacks. absurd (e.begun (ap Err (ap stop_in lacks)));
       room = e.room;
       number = tt;
       original = tt;
@@ -180,7 +174,7 @@ returns-in-Err-finish_record g c =
       named = tt;
       fits = tt;
       taken = tt;
-      back = (ap (λ (n : ℕ). n + g.H.Supply.brought c.args.more.now) e.back.0 ∙ more.sum, e.back.1);
+      back = (ap (λ (n : ℕ). n + g.H.Supply.weights c.args.more.now (λ _. 1)) e.back.0 ∙ home_by_ones _ _ c.args.pool.now.blocks c.has_blocks.new.pool.blocks (more.named (λ _. 1)), e.back.1);
       named_back = λ h. (ap (λ (n : ℕ). n + g.H.Supply.weights c.args.more.now h) (e.named_back h).0 ∙ more.named h, (e.named_back h).1);
       most = most_within _ _ _ _ _ _ e.most more.same.1 needed;
       least = subst (λ (n : ℕ). n ≤ f.pool.taken) more.same.1 e.least;

@@ -24,7 +24,7 @@ reading-init g c =
       room = c.requires.room;
       round = c.requires.round;
       numbers = numbers_none place.number first;
-      came = record { sum = omega arith; named = λ h. refl; owed = omega arith; asked = omega arith };
+      came = record { sum = omega arith; named = λ h. refl; asked = omega arith };
       within = c.requires.within;
       made = refl;
       more = omega arith;
@@ -76,9 +76,9 @@ returns-in-Err-clause-came g c =
     let l = c.reading in
     let r = c.in-Err.ensures in
     came_then _ _ _ _ _ _ _ _ _ l.invariant.came
-    (came_back (brought_by g.H.Supply.brought g.H.Supply.weights g.H.Supply.owed g.H.Supply.refusals l.more)
-    (brought_by g.H.Supply.brought g.H.Supply.weights g.H.Supply.owed g.H.Supply.refusals c.read_record.new.more) l.used l.pool c.read_record.new.pool l.spares c.read_record.new.spares l.packets.items
-    c.read_record.new.packets.items (ap (λ (ps : PacketsState). ps.items) r.none) r.back.0 r.named_back r.owed r.asked)
+    (came_back (brought_by g.H.Supply.weights g.H.Supply.refusals l.more)
+    (brought_by g.H.Supply.weights g.H.Supply.refusals c.read_record.new.more) l.used l.pool c.read_record.new.pool l.spares c.read_record.new.spares l.packets.items
+    c.read_record.new.packets.items (ap (λ (ps : PacketsState). ps.items) r.none) r.back.0 r.named_back r.asked)
 
 pub returns-in-Err-clause-lacking : goal.returns-in-Err-clause-lacking
 returns-in-Err-clause-lacking g c = λ lacks.
@@ -100,11 +100,8 @@ returns-in-Err-clause-lacking g c = λ lacks.
     )
 
 pub returns-in-Err-clause-refused : goal.returns-in-Err-clause-refused
-returns-in-Err-clause-refused g c = λ counts lacks.
-    omega (arith, c.in-Err.ensures.refused counts (ap Err (halt_lacking c.in-Err.stop c.halt_of.result c.halt_of.ensures.halt lacks)), c.reading.invariant.came.asked)
-
-pub returns-in-Err-clause-short : goal.returns-in-Err-clause-short
-returns-in-Err-clause-short g c = λ lacks. c.in-Err.ensures.short (ap Err (halt_lacking c.in-Err.stop c.halt_of.result c.halt_of.ensures.halt lacks))
+returns-in-Err-clause-refused g c = λ lacks.
+    omega (arith, c.in-Err.ensures.refused (ap Err (halt_lacking c.in-Err.stop c.halt_of.result c.halt_of.ensures.halt lacks)), c.reading.invariant.came.asked)
 
 pub returns-in-Err-clause-so_far : goal.returns-in-Err-clause-so_far
 returns-in-Err-clause-so_far g c = λ lacks.
@@ -156,9 +153,9 @@ reading-preserved g c =
           (ap (λ (n : ℕ). l.used + n) (sym k)) (r.laid p e) (r.read p e) (r.captured p e (i.so_far.link ∙ c.requires.link)) (r.need p e);
       numbers = subst (NumbersOn start first) (sym e) (numbers_more start l.reader.place.number first ps p i.numbers i.so_far.number (r.number p e));
       came = came_then _ _ _ _ _ _ _ _ _ i.came
-          (came_one (brought_by g.H.Supply.brought g.H.Supply.weights g.H.Supply.owed g.H.Supply.refusals l.more)
-          (brought_by g.H.Supply.brought g.H.Supply.weights g.H.Supply.owed g.H.Supply.refusals c.read_record.new.more) l.used count l.pool c.read_record.new.pool l.spares c.read_record.new.spares ps qs p e
-          r.home (r.named p e) r.owed r.asked);
+          (came_one (brought_by g.H.Supply.weights g.H.Supply.refusals l.more)
+          (brought_by g.H.Supply.weights g.H.Supply.refusals c.read_record.new.more) l.used count l.pool c.read_record.new.pool l.spares c.read_record.new.spares ps qs p e
+          r.home (r.named p e) r.asked);
       within = subst (λ (n : ℕ). l.used + count ≤ n) i.made r.fits;
       made = r.made.0 ∙ i.made;
       more = le_trans i.more (le-add_right l.used count);

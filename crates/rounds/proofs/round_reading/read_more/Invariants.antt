@@ -14,8 +14,8 @@ invariant-reading g l = record {
   room : 2 * l.budget ≤ l.spares.made;
   round : IsRoundOf l.packets.items (home l.spares) l.used;
   numbers : NumbersOn l.initial.reader.place.number l.initial.packets.items l.packets.items;
-  came : Came (brought_by g.H.Supply.brought g.H.Supply.weights g.H.Supply.owed g.H.Supply.refusals l.initial.more)
-      (brought_by g.H.Supply.brought g.H.Supply.weights g.H.Supply.owed g.H.Supply.refusals l.more) (home l.initial.pool + l.initial.used) (home l.pool + l.used)
+  came : Came (brought_by g.H.Supply.weights g.H.Supply.refusals l.initial.more)
+      (brought_by g.H.Supply.weights g.H.Supply.refusals l.more) (home l.initial.pool + l.initial.used) (home l.pool + l.used)
       (at_hand l.initial.pool l.initial.packets.items l.initial.spares) (at_hand l.pool l.packets.items l.spares);
   within : l.used ≤ l.initial.pool.made;
   made : l.pool.made ≡ l.initial.pool.made;

@@ -1,11 +1,10 @@
 use Rattle.std.proofs.Common.{◌≡◌, ℕ, ◌+◌, ◌-◌, ◌≤◌}
 use Rattle.block_pool.specs.PoolState.{home, weighed}
-use Rattle.block_supply.specs.Lists.{listed_home, weights_home}
+use Rattle.block_supply.specs.Lists.{weights_home}
 use Rattle.ahead.proofs.lists.NextListsSupply.bring.Given as goal
 
 abbrev pub invariant-loop-self : goal.invariant-loop-self
 invariant-loop-self g l = record {
-  sum : home l.pool + listed_home l.initial.self.taker.pass l.initial.self.taker.left ≡ home l.initial.pool + listed_home l.self.taker.pass l.self.taker.left;
   rises : home l.initial.pool ≤ home l.pool;
   made : l.pool.made ≡ l.initial.pool.made;
   taken : l.pool.taken ≡ l.initial.pool.taken;

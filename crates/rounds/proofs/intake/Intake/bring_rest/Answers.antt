@@ -1,5 +1,6 @@
 use Rattle.std.proofs.lemmas.Bool.{false≢true}
 use Rattle.std.proofs.Common.{ap, ◌∙◌, subst}
+use Rattle.block_supply.proofs.Listing.{home_by_ones}
 use Rattle.block_pool.specs.PoolState.{home, weighed}
 use Rattle.rounds.specs.RoundOf.{brought_by, Came}
 use Rattle.rounds.specs.RoundsState.{IntakeState}
@@ -20,10 +21,10 @@ loop-preserved g c =
     let i = c.loop.invariant in
     let b = c.bring-came in
     let v = c.self.view_is in
-    let from = brought_by g.H.Supply.brought g.H.Supply.weights g.H.Supply.owed g.H.Supply.refusals c.loop.more in
-    let to = brought_by g.H.Supply.brought g.H.Supply.weights g.H.Supply.owed g.H.Supply.refusals b.new.self in
+    let from = brought_by g.H.Supply.weights g.H.Supply.refusals c.loop.more in
+    let to = brought_by g.H.Supply.weights g.H.Supply.refusals b.new.self in
     let step : Came from to (home c.self.inside.pool) (home b.new.pool) (λ h. weighed h c.self.inside.pool.blocks) (λ h. weighed h b.new.pool.blocks) =
-    record { sum = b.ensures.sum; named = b.ensures.named; owed = b.ensures.owed; asked = b.ensures.asked } in
+    record { sum = home_by_ones _ _ c.self.inside.pool.blocks b.new.pool.blocks (b.ensures.named (λ _. 1)); named = b.ensures.named; asked = b.ensures.asked } in
     record {
       came = came_then _ _ _ _ _ _ _ _ _ i.came (subst (λ (s : IntakeState). Came from to s.home (home b.new.pool) (λ h. weighed h s.stock) (λ h. weighed h b.new.pool.blocks)) v step);
       blocks = b.ensures.same.0 ∙ ap (λ (s : IntakeState). s.blocks) v ∙ i.blocks;

@@ -5,8 +5,8 @@ use Rattle.rounds.proofs.intake.Intake.bring_rest.Given as goal
 
 abbrev pub invariant-loop : goal.invariant-loop
 invariant-loop g l = record {
-  came : Came (brought_by g.H.Supply.brought g.H.Supply.weights g.H.Supply.owed g.H.Supply.refusals l.initial.more)
-      (brought_by g.H.Supply.brought g.H.Supply.weights g.H.Supply.owed g.H.Supply.refusals l.more) l.initial.self.home l.self.home (λ h. weighed h l.initial.self.stock)
+  came : Came (brought_by g.H.Supply.weights g.H.Supply.refusals l.initial.more)
+      (brought_by g.H.Supply.weights g.H.Supply.refusals l.more) l.initial.self.home l.self.home (λ h. weighed h l.initial.self.stock)
       (λ h. weighed h l.self.stock);
   blocks : l.self.blocks ≡ l.initial.self.blocks;
   taken : l.self.taken ≡ l.initial.self.taken;

@@ -45,8 +45,8 @@ returns-then-bring_rest-clause-came g c =
     let b = c.bring_rest in
     let r = c.read_on in
     let p = c.args.paused.round in
-    let from = brought_by g.H.Supply.brought g.H.Supply.weights g.H.Supply.owed g.H.Supply.refusals c.args.more.now in
-    let to = brought_by g.H.Supply.brought g.H.Supply.weights g.H.Supply.owed g.H.Supply.refusals b.new.more in
+    let from = brought_by g.H.Supply.weights g.H.Supply.refusals c.args.more.now in
+    let to = brought_by g.H.Supply.weights g.H.Supply.refusals b.new.more in
     let out = ap (λ (n : ℕ). b.new.self.home + n) (sym c.blocks-2.ensures.blocks) ∙ b.ensures.all c.if-bring_rest.true ∙ sym b.ensures.same.0 in
     subst (λ (i : IntakeState). Came from to (i.home + p.blocks) (r.new.self.home + r.result.round.blocks) (λ h. weighed h i.stock + weights_of p h) (λ h. weighed h r.new.self.stock + weights_of r.result.round h))
     c.self.view_is
@@ -58,8 +58,8 @@ returns-clause-came g c =
     let b = c.bring_rest in
     let r = c.into_round in
     let p = c.args.paused.round in
-    let from = brought_by g.H.Supply.brought g.H.Supply.weights g.H.Supply.owed g.H.Supply.refusals c.args.more.now in
-    let to = brought_by g.H.Supply.brought g.H.Supply.weights g.H.Supply.owed g.H.Supply.refusals b.new.more in
+    let from = brought_by g.H.Supply.weights g.H.Supply.refusals c.args.more.now in
+    let to = brought_by g.H.Supply.weights g.H.Supply.refusals b.new.more in
     subst (λ (i : IntakeState). Came from to (i.home + p.blocks) (b.new.self.home + r.result.blocks) (λ h. weighed h i.stock + weights_of p h) (λ h. weighed h b.new.self.stock + weights_of r.result h)) c.self.view_is
     (came_on from to (home c.self.inside.pool) b.new.self.home b.new.self.home p.blocks r.result.blocks (λ h. weighed h c.self.inside.pool.blocks) (λ h. weighed h b.new.self.stock)
     (λ h. weighed h b.new.self.stock) (weights_of p) (weights_of r.result) b.ensures.came (ap (λ (x : RoundState). b.new.self.home + x.blocks) r.ensures.same)

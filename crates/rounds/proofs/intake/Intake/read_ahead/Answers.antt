@@ -74,8 +74,8 @@ returns-clause-came g c =
     let none = ap (λ (b : Blank). b.packets.items) c.replace-packets.ensures.value ∙ c.requires.none.0 in
     let bare = ap (λ (b : Blank). home b.spares) c.replace-packets.ensures.value ∙ c.requires.none.1 in
     let round : RoundState = record { packets = r.new.packets.items; spares = r.new.spares.blocks; blocks = r.result.0 } in
-    let from = brought_by g.H.Supply.brought g.H.Supply.weights g.H.Supply.owed g.H.Supply.refusals c.args.more.now in
-    let to = brought_by g.H.Supply.brought g.H.Supply.weights g.H.Supply.owed g.H.Supply.refusals r.new.more in
+    let from = brought_by g.H.Supply.weights g.H.Supply.refusals c.args.more.now in
+    let to = brought_by g.H.Supply.weights g.H.Supply.refusals r.new.more in
     let whole = came_whole from to (home c.self.inside.pool) (home r.new.pool + r.result.0) c.self.inside.pool lists.spares lists.packets.items _ none bare r.ensures.came in
     subst (λ (x : RoundState). Came from to c.args.self.now.home (home r.new.pool + x.blocks) (λ h. weighed h c.args.self.now.stock) (λ h. weighed h r.new.pool.blocks + weights_of x h)) (sym (round_is g c))
     (subst (λ (i : IntakeState). Came from to i.home (home r.new.pool + r.result.0) (λ h. weighed h i.stock) (λ h. weighed h r.new.pool.blocks + weights_of round h)) c.self.view_is

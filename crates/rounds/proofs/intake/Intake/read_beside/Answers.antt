@@ -44,4 +44,4 @@ returns-in-Paused-clause-failed g c = λ fault. rose_later _ _ _ c.in-Paused.ens
 pub returns-in-Paused-clause-paused : goal.returns-in-Paused-clause-paused
 returns-in-Paused-clause-paused g c =
     let r = c.go_on.ensures in
-    inr (r.paused ∙ ap (λ (n : ℕ). min (n + 1) (2 ^ 64 - 1)) c.read_up-ahead.ensures.same.3, λ counts. le_trans (c.in-Paused.ensures.refused counts) r.came.asked)
+    inr (r.paused ∙ ap (λ (n : ℕ). min (n + 1) (2 ^ 64 - 1)) c.read_up-ahead.ensures.same.3, le_trans c.in-Paused.ensures.refused r.came.asked)

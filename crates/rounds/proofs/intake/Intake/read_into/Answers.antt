@@ -26,15 +26,6 @@ returns-clause-fills g c =
     let to = reached g.S.Source.left g.S.Source.faults r.new.reader in
     subst (λ (s : IntakeState). FillsWhole s.blocks s.budget from to r.new.packets.items r.result.1) c.self.view_is r.ensures.fills
 
-pub returns-clause-came : goal.returns-clause-came
-returns-clause-came g c =
-    let r = c.read_records-blocks in
-    let from = brought_by g.H.Supply.brought g.H.Supply.weights g.H.Supply.owed g.H.Supply.refusals c.args.more.now in
-    let to = brought_by g.H.Supply.brought g.H.Supply.weights g.H.Supply.owed g.H.Supply.refusals r.new.more in
-    let round : RoundState = record { packets = r.new.packets.items; spares = r.new.spares.blocks; blocks = r.result.0 } in
-    subst (λ (i : IntakeState). Came from to i.home (home r.new.pool + r.result.0) (λ h. weighed h i.stock) (λ h. weighed h r.new.pool.blocks + weights_of round h)) c.self.view_is
-    (came_read from to _ _ _ r.new.pool round r.ensures.came)
-
 pub returns-clause-same : goal.returns-clause-same
 returns-clause-same g c =
     let i = c.self.inside in

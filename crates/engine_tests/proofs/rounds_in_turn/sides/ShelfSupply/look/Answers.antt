@@ -1,14 +1,10 @@
-use Rattle.std.proofs.Common.{arith, inl, inr}
+use Rattle.std.proofs.Common.{arith}
 use Rattle.block_supply.proofs.Listing.{left_weighs}
 use Rattle.raw_block.specs.Views.{SoleState}
-use Rattle.engine_tests.proofs.rounds_in_turn.sides.ShelfSupply.bring.Goals as goal
+use Rattle.engine_tests.proofs.rounds_in_turn.sides.ShelfSupply.look.Goals as goal
 
 pub invariant_of-self : goal.invariant_of-self
 invariant_of-self g c = record {
-  few = elim c.refill.ensures.all [
-    | inl none ↦ omega (arith, none)
-    | inr full ↦ omega (arith, full, c.args.self.now.few, c.refill.ensures.sum, c.home.ensures.within)
-  ];
   weighs = λ h.
       omega (arith, c.args.self.now.weighs h, left_weighs h c.args.self.now.pool c.refill.new.from c.args.pool.now c.refill.new.self c.refill.ensures.moved);
 }
