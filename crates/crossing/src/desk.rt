@@ -11,12 +11,10 @@ use block_supply::Taker;
 use rtrb::{Producer, Protocol};
 use std::alloc::{AllocError, Global};
 
-/// As many rounds are on their way at once: one that is read or worked, and the others in the ring or at the other
-/// side.
+/// As many rounds are on their way at once, each from when it is read until its blocks are given.
 pub const ROUNDS: usize = 3;
 
-/// As many of them lie in the ring. Before another one is read it has a place, so that one more is read or worked
-/// only.
+/// The places of the ring. While none is free no round is read, so with the one that is worked they are all.
 pub const IN_RING: usize = ROUNDS - 1;
 
 /// The end where lists come back, and what is away with rounds. Where a round is paused for want of blocks they are

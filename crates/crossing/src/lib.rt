@@ -8,9 +8,9 @@
 //!
 //! Nothing here knows what a round is: what goes to the side that works is whatever a ring takes ([`send`],
 //! [`has_come`]). What comes back are blocks, by lists alone: a pool of lists that [`open_way`] makes, each list by one
-//! step. They come in at the [`Desk`] of the side that reads, which is its supply of blocks (`Supply`). Each side sleeps
-//! by a bell of its own ([`Bells`]), and a side that reads waits at its [`Post`], for blocks or for a place in the ring.
-//! That the other side has ended is one flag beside the bells.
+//! step. They come in at the [`Desk`] of the side that reads, which is its supply of blocks (`Supply`). Each side
+//! sleeps by a bell of its own ([`Bells`]), and a side that reads waits at its [`Post`], for blocks or for a place in
+//! the ring. That the other side has ended is one flag beside the bells.
 //!
 //! [`ROUNDS`] rounds are on their way at once, by the places of the ring: before one is read it has a place
 //! ([`Desk::await_place`]). Of a list whose blocks are home the memory goes away with a round, for the blocks that this
@@ -19,8 +19,8 @@
 //! Proved: what was sent by a ring, item by item (`sent` of [`send`]); no block is lost at the desk, also by the names
 //! of blocks (`meets` of its calls, `Meets` of `specs/Desks.antt`): what is home and what hasn't come home of lists is
 //! what it was. As a supply the desk says yes only where as many blocks are home as are needed, and no only behind a
-//! take that found no list (`enough` and `refused` of `bring`, `looked` of `look`). Not proved: that a thread that waits
-//! is woken.
+//! take that found no list (`enough` and `refused` of `bring`, `looked` of `look`). Not proved: that a thread that
+//! waits is woken.
 //!
 //! ```
 //! let (mut out, mut from) = RingBuffer::new(alloc, IN_RING)?;
@@ -44,9 +44,9 @@
 //!   itself (`Away`). No proof rests on that count: a pause that comes too early costs a wait for that round, and one
 //!   that comes too late costs nothing.
 //! - **A list rings the reader's bell only where the reader has said that it waits for blocks** (`block_pool::Bell`),
-//!   so that giving one is a step and a look. Who wants blocks looks for lists for about as long as a small round lasts;
-//!   then it says that it waits, looks once more, and sleeps between its looks. Where it waits for a place in the ring
-//!   lists don't wake it.
+//!   so that giving one is a step and a look. Who wants blocks looks for lists for about as long as a small round
+//!   lasts; then it says that it waits, looks once more, and sleeps between its looks. Where it waits for a place in
+//!   the ring lists don't wake it.
 //! - **That the other side has ended no list says**: where the put of one is refused it wouldn't arrive, and a reader
 //!   that waits for blocks would wait for ever; and who takes a list counts on a block in it (`some` of
 //!   `BlockList::into_pool`), which a round that ends the run may not leave. So it is a flag beside the bells.

@@ -1,5 +1,6 @@
 //! Handles a capture's rounds by two sides.
-ghost use Rattle.std.specs.Prelude.{◌≡◌, ◌+◌, ◌-◌, ◌≤◌, true, None, Ok, [], IfSome, IfOk, OnOk, length};
+ghost use Rattle.std.specs.Prelude.{◌≡◌, ◌≤◌, [], length};
+ghost use Rattle.std.specs.Prelude.{true, None, Ok, IfSome, IfOk, OnOk};
 ghost use Rattle.std.specs.Arc.{arc_value};
 ghost use Rattle.block_pool.specs.PoolState.{home};
 ghost use Rattle.pcap_io.specs.Readers.{place_of, SameLoan};

@@ -21,7 +21,8 @@
 //!
 //! The side that reads has the rounds' intake, whose pool it alone takes from; the side that works has their bench.
 //! Blocks come home to that pool by one way, a pool of lists that threads share (`block_pool::ListPool`), each list by
-//! one step. Who gives them is one `block_pool::Giver`, which stays with the side that works and is lent for each round:
+//! one step. Who gives them is one `block_pool::Giver`, which stays with the side that works and is lent for each
+//! round:
 //!
 //! - The spare blocks of a round go lane by lane, each lane's part as soon as it has been worked, while the packets are
 //!   still to be written. Where all places are taken a list stays with its round.
@@ -34,14 +35,14 @@
 //! So between both sides a block lies in one of five places: the intake's pool; what is left of a list that came; the
 //! pool of lists; the list of the side that works; a round in the ring.
 //!
-//! Two rounds have a place in the ring, and one is read or worked (`crossing::ROUNDS`), so reading is at most three
-//! rounds ahead: before it reads one it waits for a place (`Desk::await_place`). Behind a record's header, where fewer
-//! blocks are home than the record needs, the side that reads takes lists at its desk (`crossing::Desk`), and where
-//! there is none it waits for one as long as one may come before the last round is written. Where the blocks are those
-//! of that round the one that is read is paused: its header is kept, and once all blocks but its own are home it is
-//! read to its end (`rounds::Intake::read_beside`). So a record is left half read for want of blocks only where the
-//! other side has stopped, which says so by a flag (`crossing::Bells::end`), and a round exceeds the blocks just where
-//! it does in one thread.
+//! The ring has two places, and before a round is read one of them is free (`Desk::await_place`): with the one that is
+//! worked three rounds are on their way at most (`crossing::ROUNDS`). Behind a record's header, where fewer blocks are
+//! home than the record needs, the side that reads takes lists at its desk (`crossing::Desk`), and where there is none
+//! it waits for one as long as one may come before the last round is written. Where the blocks are those of that round
+//! the one that is read is paused: its header is kept, and once all blocks but its own are home it is read to its end
+//! (`rounds::Intake::read_beside`). So a record is left half read for want of blocks only where the other side has
+//! stopped, which says so by a flag (`crossing::Bells::end`), and a round exceeds the blocks just where it does in one
+//! thread.
 //!
 //! Proved of [`handle_beside`], whatever both threads do at the same time, is the clause of `rounds::handle_from`,
 //! which does the same in one thread: the rounds that were read stand one behind another in the capture, each of the
@@ -56,11 +57,11 @@
 //! Not proved: that waiting ends. The side that works waits only for a round, and has given all blocks of those before,
 //! or gives them again each time that it wakes. The side that reads waits for a place in the ring, and each round that
 //! is received rings its bell; or for blocks while some are away and the other side hasn't stopped, and wakes that side
-//! as it begins to. So never both. Whoever wakes tries again, and a ring isn't lost while nobody sleeps. Where no thread
-//! can be made for the side that reads, the other one gives up after a third of a second, and does all alone. Nor is it
-//! proved in the reading thread that all blocks are in its pool once all lists are back, nor in the other one that what
-//! found no place and the next round are no more than all. If they weren't, the one would wait on, and in the other
-//! merging would end as for want of memory.
+//! as it begins to. So never both. Whoever wakes tries again, and a ring isn't lost while nobody sleeps. Where no
+//! thread can be made for the side that reads, the other one gives up after a third of a second, and does all alone.
+//! Nor is it proved in the reading thread that all blocks are in its pool once all lists are back, nor in the other one
+//! that what found no place and the next round are no more than all. If they weren't, the one would wait on, and in the
+//! other merging would end as for want of memory.
 //!
 //! ```
 //! let end = merge_beside(

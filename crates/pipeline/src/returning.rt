@@ -1,5 +1,5 @@
 //! How blocks of rounds go back from the side that works, and how its next round comes.
-ghost use Rattle.std.specs.Prelude.{◌≡◌, ◌+◌, ◌<◌, ◌≤◌, ◌∷◌, ◌++◌, [], length, IfOk, MatchOption, OnOk};
+ghost use Rattle.std.specs.Prelude.{◌≡◌, ◌<◌, ◌≤◌, length, IfOk, MatchOption, OnOk};
 ghost use Rattle.block_pool.specs.PoolState.{home};
 ghost use Rattle.rounds.specs.Benches.{HasRoom, IsLent, IsSameBench};
 ghost use Rattle.rtrb.specs.Ring.{known_items, received, SameConsumer};
