@@ -3,7 +3,7 @@ ghost use Rattle.std.specs.Prelude.{◌≡◌, ◌≤◌};
 ghost use Rattle.std.specs.Arc.{arc_value};
 ghost use Rattle.rtrb.specs.Ring.{sent, SameProducer};
 
-use crate::away::Away;
+use crate::lent::Away;
 use crate::post::Post;
 use crate::ring::has_place;
 use block_pool::Pool;

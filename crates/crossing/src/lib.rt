@@ -53,17 +53,17 @@
 #![tactic(auto)]
 
 mod arrivals;
-mod away;
 mod bells;
 mod desk;
+mod lent;
 mod naming;
 mod post;
 mod ring;
 mod way;
 
-pub use away::Away;
 pub use bells::Bells;
 pub use desk::{Desk, IN_RING, ROUNDS, new_spent};
+pub use lent::Away;
 pub use naming::Naming;
 pub use post::{Post, Sleeper};
 pub use ring::{has_come, has_place, send};

@@ -11,7 +11,7 @@ ghost use Rattle.pcap_io.specs.Places.{IsReady, found_at};
 ghost use Rattle.pcap_io.specs.Readers.{place_of, source_of, SameLoan};
 ghost use Rattle.rounds.specs.Merging.{ending_of, options_of, HoldsCaptured};
 
-use crate::crew::handle_beside;
+use crate::crewed::handle_beside;
 use off_io::{Gate, Sink, Source};
 use pcap_io::{CaptureReader, FileHead};
 use rounds::{MergeEnd, RoundWriter, Rounds};

@@ -3,7 +3,7 @@ use Rattle.rounds.specs.Handled.{Handled}
 use Rattle.rounds.specs.Merging.{options_of}
 use Rattle.rounds.specs.Reads.{reader_at}
 use Rattle.pipeline.proofs.Kept.{as_three}
-use Rattle.pipeline.proofs.crew.handle_serving.Goals as goal
+use Rattle.pipeline.proofs.crewed.handle_serving.Goals as goal
 
 pub returns-clause-same_source : goal.returns-clause-same_source
 returns-clause-same_source g c = let handles = c.join_mut-end.ensures.1.met in rw (c.reader-1.given.1 (sym handles.0.4)) handles.1.0
