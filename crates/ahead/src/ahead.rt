@@ -34,8 +34,7 @@ use lanes::Works;
 use off_io::Source;
 use pcap_io::CaptureReader;
 use rounds::{
-    Bench, Blank, Intake, Paused, ReadAhead, Rest, Round, RoundEnd, RoundRead, Rounds, Worked,
-    bring_lists,
+    Bench, Intake, Paused, ReadAhead, Rest, Round, RoundEnd, RoundRead, Rounds, Worked, bring_lists,
 };
 use std::alloc::AllocError;
 use std::marker::Brand;
@@ -52,13 +51,9 @@ fn work_beside<'a, R: Threads + Wait + Sync, N: ListName + Send, W: Works, S: So
     intake: &'a mut Intake,
     reader: &'a mut CaptureReader<'_, S>,
     more: &'a mut NextLists<'_, R, N>,
-    lists: &'a mut Blank,
 ) -> (ReadAhead, Result<Worked, Rest>)
     requires ready { IsReady (place_of reader.old) }
     requires link { (place_of reader.old).link ≡ Ethernet }
-    requires none { (lists.old.packets.items ≡ []) × (home lists.old.spares ≡ 0) }
-    requires reserved { (intake.old.budget ≤ lists.old.packets.room)
-        × (2 * intake.old.budget ≤ lists.old.spares.made) }
     requires few { round.old.blocks ≤ bench.old.blocks }
     requires lent { IsLent giver.old }
     ensures same_source { SameLoan reader.old reader.new }
@@ -67,7 +62,6 @@ fn work_beside<'a, R: Threads + Wait + Sync, N: ListName + Send, W: Works, S: So
     ensures paused { IfPaused result.0 (Lacks intake.new.home intake.old.blocks intake.old.taken intake.new.taken) }
     ensures refused { IfPaused result.0 (λ _. min (more.old.taker.pass.empties + 1) (2 ^ 64 - 1)
         ≤ more.new.taker.pass.empties) }
-    ensures unlisted { (lists.new.packets.items ≡ []) × (home lists.new.spares ≡ 0) }
     ensures came { Came (brought_listed more.old.taker.pass more.old.taker.left)
         (brought_listed more.new.taker.pass more.new.taker.left) intake.old.home
         (intake.new.home + (round_of result.0).blocks) (λ h. weighed h intake.old.stock)
@@ -86,9 +80,6 @@ fn work_beside<'a, R: Threads + Wait + Sync, N: ListName + Send, W: Works, S: So
         &mut || -> ReadAhead
             requires ready { IsReady (place_of reader.now) }
             requires link { (place_of reader.now).link ≡ Ethernet }
-            requires none { (lists.now.packets.items ≡ []) × (home lists.now.spares ≡ 0) }
-            requires reserved { (intake.now.budget ≤ lists.now.packets.room)
-                × (2 * intake.now.budget ≤ lists.now.spares.made) }
             ensures same_source { SameLoan reader.entry.now reader.exit.now }
             ensures fills { FillsAhead intake.entry.now.blocks intake.entry.now.budget
                 (reached S.left S.faults reader.entry.now) (reached S.left S.faults reader.exit.now) result }
@@ -96,7 +87,6 @@ fn work_beside<'a, R: Threads + Wait + Sync, N: ListName + Send, W: Works, S: So
                 intake.entry.now.taken intake.exit.now.taken) }
             ensures refused { IfPaused result (λ _. min (more.entry.now.taker.pass.empties + 1) (2 ^ 64 - 1)
                 ≤ more.exit.now.taker.pass.empties) }
-            ensures unlisted { (lists.exit.now.packets.items ≡ []) × (home lists.exit.now.spares ≡ 0) }
             ensures came { Came (brought_listed more.entry.now.taker.pass more.entry.now.taker.left)
                 (brought_listed more.exit.now.taker.pass more.exit.now.taker.left) intake.entry.now.home
                 (intake.exit.now.home + (round_of result).blocks) (λ h. weighed h intake.entry.now.stock)
@@ -108,7 +98,10 @@ fn work_beside<'a, R: Threads + Wait + Sync, N: ListName + Send, W: Works, S: So
             ensures budget { (1 ≤ intake.entry.now.budget) × (intake.entry.now.budget ≤ 4096) }
             ensures takes { Takes intake.entry.now.blocks intake.entry.now.taken intake.exit.now.taken 0
                 (round_of result).blocks }
-        { intake.read_ahead(rt, reader, more, lists) },
+        {
+            let blank = intake.begin();
+            intake.read_ahead(rt, reader, more, blank)
+        },
         &mut || -> Result<Worked, Rest>
             requires few { round.now.blocks ≤ bench.now.blocks }
             requires lent { IsLent giver.now }
@@ -174,20 +167,19 @@ fn work_listed<N: ListName + Send, R: Threads + Wait + Sync, W: Works, S: Source
     ensures budget { (1 ≤ rounds.old.budget) × (rounds.old.budget ≤ 4096) }
     ensures takes { Takes rounds.old.blocks rounds.old.taken rounds.new.taken 0 (round_of result.1).blocks }
 {
-    let Ok(mut lists) = rounds.bench.take_blank() else {
+    if rounds.bench.make_room().is_err() {
         let none = rounds.intake.read_none();
         return (rounds.work_round(works, round), ReadAhead::Read(none));
-    };
+    }
     let mut round = round;
     let mut giver = Some(giver);
     let mut more = NextLists::<'_, R, N>::new(rt, taker);
     let intake = &mut rounds.intake;
     let bench = &mut rounds.bench;
     let (read, worked) = work_beside(
-        rt, works, bench, &mut round, &mut giver, intake, reader, &mut more, &mut lists,
+        rt, works, bench, &mut round, &mut giver, intake, reader, &mut more,
     );
     let _none = round.discard();
-    lists.discard();
     let NextLists {
         rt: _,
         taker,

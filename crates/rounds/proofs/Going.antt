@@ -1,5 +1,5 @@
 -- Rounds that were handled, one after another.
-use Rattle.std.proofs.Common.{◌≡◌, ◌∙◌, ◌⊎◌, ◌+◌, ◌-◌, ◌≤◌, ◌^◌, ℕ, min, List, [], ◌∷◌, ◌++◌, Option, None, Bool, true, inl, inr, refl, ap, subst, length, arith}
+use Rattle.std.proofs.Common.{◌≡◌, ◌∙◌, ◌⊎◌, ◌+◌, ◌-◌, ◌≤◌, ◌^◌, ℕ, min, List, [], ◌∷◌, ◌++◌, Option, None, Bool, inl, inr, refl, ap, subst, length, arith}
 use Rattle.offload_model.specs.Written.{Options}
 use Rattle.rounds.specs.declared.round.RoundRead.{RoundRead}
 use Rattle.rounds.specs.Handled.{Went, Ends, FewPauses, IsReadyAt, Rests, Stepped}

@@ -21,7 +21,7 @@ use Rattle.reading.specs.Laid.{AreRead, IsLaid, IsRead, LaidFrom}
 use Rattle.reading.proofs.Laying.{laid_at, weighed_none}
 use Rattle.reading.specs.Reading.{GivesKept, GoesOn, KeepsHead, Passes}
 use Rattle.rounds.specs.Ahead.{GivesBehind, Waits}
-use Rattle.rounds.specs.Filling.{Reached, FillsAhead, FillsBehind, FillsOn, FillsWhole}
+use Rattle.rounds.specs.Filling.{Reached, FillsAhead, FillsBehind, FillsOn}
 use Rattle.rounds.specs.Fresh.{NumberedFrom}
 use Rattle.rounds.specs.Reading.{GivesRest, GivesRound, FillsRound, IfEnded, IsEndOf, IsHaltOf, NumbersOn, PassesOver, WaitsOver}
 use Rattle.rounds.specs.RoundOf.{at_hand, Brought, Came, IsRoundOf}
@@ -34,6 +34,7 @@ use Rattle.rounds.specs.declared.round.RoundEnd.{RoundEnd}
 use Rattle.rounds.specs.declared.round.RoundEnd.TheVariants as ends
 use Rattle.rounds.specs.declared.round.RoundRead.{RoundRead}
 use Rattle.rounds.proofs.Coming.{counts_last}
+use Rattle.rounds.proofs.Counting.{rose_later}
 use Rattle.rounds.proofs.Rounding.{ReadSoFar, captured_last, goes_over, loses_head, need_last, passes_none, precede_more, read_last, round_none, round_stop, whole_fills, whole_given, whole_goes, whole_numbered}
 use Rattle.rounds.proofs.Taking.{numbered_last}
 
@@ -208,59 +209,46 @@ waits_whole budget old new a b first p ready none fewer numbers w = record {
 
 -- ---- what a round comes to that had no packet before
 
--- it ends
-pub whole_on : (blocks budget : ℕ) (from to : Reached) (first round : List Held) (halt : Halt) (end : RoundEnd) → halt ≡ Ended end → IsReady from.place → first ≡ []
-    → FillsOn blocks budget from to first round halt → FillsWhole blocks budget from to round end
-whole_on blocks budget from to first round halt end is ready none f = record {
-  given = whole_given from.left to.left from.place to.place blocks first round end none
-      (subst (λ (h : Halt). IfEnded h (λ (e : RoundEnd). Told from.left to.left (GivesRest blocks from.place to.place first round e))) is f.given);
-  size = f.size;
-  fewer = λ not_full memory. f.fewer (λ full. not_full (ap end_in (sym is ∙ full)));
-  full = λ full. whole_fills from.place to.place first round budget ready none (f.full (is ∙ ap Ended full));
-  numbers = whole_numbered from.place.number first round none f.numbers;
-  later = f.later;
-  failed = λ fault. f.failed (is ∙ ap Ended fault);
-}
-
 -- none is read, for want of memory
-pub unread_whole : (blocks budget : ℕ) (from : Reached) (read : RoundRead) → read.round.packets ≡ [] → read.end ≡ ends.NoMemory → FillsWhole blocks budget from from read.round.packets read.end
-unread_whole blocks budget from read none end = record {
-  given = subst (λ (e : RoundEnd). Told from.left from.left (GivesRound blocks from.place from.place read.round.packets e)) (sym end)
-      (Told-same from.left (GivesRound blocks from.place from.place read.round.packets ends.NoMemory) (λ bytes. ([], refl)));
-  size = omega (arith, ap (λ (xs : List Held). length xs) none);
-  fewer = λ not_full memory. absurd (memory end);
-  full = λ full. absurd (no_memory_full (sym end ∙ full));
-  numbers = subst (NumberedFrom from.place.number) (sym none) tt;
-  later = omega arith;
-  failed = λ fault. absurd (no_memory_fault (sym end ∙ fault));
-}
-
 pub unread_ahead : (blocks budget : ℕ) (from : Reached) (read : RoundRead) → read.round.packets ≡ [] → read.round.blocks ≡ 0 → read.end ≡ ends.NoMemory
     → FillsAhead blocks budget from from (aheads.Read read)
 unread_ahead blocks budget from read none empty end =
-    let w = unread_whole blocks budget from read none end in
     let r = round_none read.round.packets 0 read.round.blocks none refl empty in
     record {
-      given = w.given;
-      reads = record { size = w.size; fewer = w.fewer; full = w.full; captured = r.captured; numbers = w.numbers; need = r.need };
+      given = subst (λ (e : RoundEnd). Told from.left from.left (GivesRound blocks from.place from.place read.round.packets e)) (sym end)
+          (Told-same from.left (GivesRound blocks from.place from.place read.round.packets ends.NoMemory) (λ bytes. ([], refl)));
+      reads = record {
+        size = omega (arith, ap (λ (xs : List Held). length xs) none);
+        fewer = λ not_full memory. absurd (memory end);
+        full = λ full. absurd (no_memory_full (sym end ∙ full));
+        captured = r.captured;
+        numbers = subst (NumberedFrom from.place.number) (sym none) tt;
+        need = r.need;
+      };
       waits = tt;
-      later = w.later;
-      failed = w.failed;
+      later = omega arith;
+      failed = λ fault. absurd (no_memory_fault (sym end ∙ fault));
     }
 
 -- beside work it ends, or it is paused
 pub ends_ahead : (blocks budget : ℕ) (from to : Reached) (first : List Held) (round : RoundState) (halt : Halt) (end : RoundEnd) → halt ≡ Ended end → IsReady from.place → first ≡ []
     → FillsOn blocks budget from to first round.packets halt → AllByRecursion IsCaptured (map packet_of round.packets) → round.blocks ≡ round_need (map packet_of round.packets)
     → FillsAhead blocks budget from to (aheads.Read (record { round = round; end = end }))
-ends_ahead blocks budget from to first round halt end is ready none f captured need =
-    let w = whole_on blocks budget from to first round.packets halt end is ready none f in
-    record {
-      given = w.given;
-      reads = record { size = w.size; fewer = w.fewer; full = w.full; captured = captured; numbers = w.numbers; need = need };
-      waits = tt;
-      later = w.later;
-      failed = w.failed;
-    }
+ends_ahead blocks budget from to first round halt end is ready none f captured need = record {
+  given = whole_given from.left to.left from.place to.place blocks first round.packets end none
+      (subst (λ (h : Halt). IfEnded h (λ (e : RoundEnd). Told from.left to.left (GivesRest blocks from.place to.place first round.packets e))) is f.given);
+  reads = record {
+    size = f.size;
+    fewer = λ not_full memory. f.fewer (λ full. not_full (ap end_in (sym is ∙ full)));
+    full = λ full. whole_fills from.place to.place first round.packets budget ready none (f.full (is ∙ ap Ended full));
+    captured = captured;
+    numbers = whole_numbered from.place.number first round.packets none f.numbers;
+    need = need;
+  };
+  waits = tt;
+  later = f.later;
+  failed = λ fault. f.failed (is ∙ ap Ended fault);
+}
 
 pub waits_ahead : (blocks budget : ℕ) (from to : Reached) (first : List Held) (p : Paused) (halt : Halt) → halt ≡ Lacking → IsReady from.place → first ≡ []
     → FillsOn blocks budget from to first p.round.packets halt → AllByRecursion IsCaptured (map packet_of p.round.packets) → p.round.blocks ≡ round_need (map packet_of p.round.packets)
@@ -303,6 +291,25 @@ pub behind_whole : (a b c : Option (List ℕ)) (blocks budget : ℕ) (old mid ne
 behind_whole a b c blocks budget old mid new p round end w told =
     Told-then a b c (λ bytes left. (opened : List ℕ) × (Passes old w.at (map packet_of p.round.packets) bytes opened × GivesHead w.at (Ok (Some p.head)) opened left))
     (GivesBehind blocks w.at new p.head p.round.packets round end) (GivesRound blocks old new round end) (λ bytes rest left waits behind. behind old bytes waits.0 waits.1.0 waits.1.1) w.given told
+
+-- a round that was paused and its rest are one that wasn't
+pub rest_ahead : (blocks budget : ℕ) (from mid to : Reached) (p : Paused) (read : RoundRead) → Waits budget from.place mid.place from.left mid.left p → NumberedFrom from.place.number p.round.packets
+    → from.faults ≤ mid.faults → FillsBehind blocks budget mid to p.head p.round.packets read.round.packets read.end → AllByRecursion IsCaptured (map packet_of read.round.packets)
+    → read.round.blocks ≡ round_need (map packet_of read.round.packets) → FillsAhead blocks budget from to (aheads.Read read)
+rest_ahead blocks budget from mid to p read w numbers later f captured need = record {
+  given = behind_whole from.left mid.left to.left blocks budget from.place mid.place to.place p read.round.packets read.end w (f.given w.at w.keeps);
+  reads = record {
+    size = f.size;
+    fewer = λ not_full memory. f.fewer not_full;
+    full = λ full. f.full full w.at w.keeps from.place w.goes;
+    captured = captured;
+    numbers = f.numbers w.at w.keeps from.place.number numbers (sym w.goes.number);
+    need = need;
+  };
+  waits = tt;
+  later = omega (arith, later, f.later);
+  failed = λ fault. rose_later _ _ _ later (f.failed fault);
+}
 
 -- none is read: the header is gone
 pub behind_unread : (a : Option (List ℕ)) (at new : Place) (blocks : ℕ) (head : RecHead) (first : List Held) → Told a a (GivesBehind blocks at new head first first ends.NoMemory)

@@ -9,8 +9,7 @@ use Rattle.pcap_io.specs.Readers.{place_of, source_of}
 use Rattle.gro.specs.declared.slot.Slot.{Slot as Held}
 use Rattle.reading.specs.Reading.{KeepsHead}
 use Rattle.rounds.specs.Ahead.{GivesBehind, IfPaused, IfRead, ReadsAhead, Waits}
-use Rattle.rounds.specs.Fresh.{NumberedFrom}
-use Rattle.rounds.specs.Reading.{FillsRound, GivesRest, GivesRound, IfEnded, NumbersOn, PassesRound}
+use Rattle.rounds.specs.Reading.{FillsRound, GivesRest, GivesRound, IfEnded, NumbersOn}
 use Rattle.rounds.specs.declared.round_reading.Halt.{Halt}
 use Rattle.rounds.specs.declared.round_reading.Halt.TheVariants as halts
 use Rattle.rounds.specs.declared.round.ReadAhead.{ReadAhead}
@@ -51,16 +50,6 @@ pub record FillsBehind (blocks budget : ℕ) (from to : Reached) (head : RecHead
   pub full : end ≡ ends.Full → (at : Place) → KeepsHead at from.place head
       → FillsRound at to.place first round budget
   pub numbers : (at : Place) → KeepsHead at from.place head → NumbersOn at.number first round
-  pub later : from.faults ≤ to.faults
-  pub failed : end ≡ ends.ReadFault → Rose from.faults to.faults
-
--- a whole round
-pub record FillsWhole (blocks budget : ℕ) (from to : Reached) (round : List Held) (end : RoundEnd) : Type 0 where
-  pub given : Told from.left to.left (GivesRound blocks from.place to.place round end)
-  pub size : length round ≤ budget
-  pub fewer : end ≢ ends.Full → end ≢ ends.NoMemory → length round < budget
-  pub full : end ≡ ends.Full → PassesRound from.place to.place round budget
-  pub numbers : NumberedFrom from.place.number round
   pub later : from.faults ≤ to.faults
   pub failed : end ≡ ends.ReadFault → Rose from.faults to.faults
 

@@ -8,69 +8,37 @@ ghost use Rattle.pcap_io.specs.declared.heads.Link.TheVariants.{Ethernet};
 ghost use Rattle.pcap_io.specs.declared.place.Place.{Place};
 ghost use Rattle.pcap_io.specs.Places.{IsReady};
 ghost use Rattle.pcap_io.specs.Readers.{place_of, source_of, SameLoan};
-ghost use Rattle.offload_model.specs.Need.{need_of, round_need};
+ghost use Rattle.offload_model.specs.Need.{round_need};
 ghost use Rattle.offload_model.specs.Captured.{IsCaptured};
 ghost use Rattle.gro.specs.Slots.{packet_of};
-ghost use Rattle.reading.specs.Reading.{KeepsHead};
-ghost use Rattle.rounds.specs.Ahead.{round_of, IfPaused, Lacks};
-ghost use Rattle.rounds.specs.Filling.{reached, FillsAhead, FillsBehind};
 ghost use Rattle.rounds.specs.Fresh.{NumberedFrom};
 ghost use Rattle.rounds.specs.Weights.{weights_of};
-ghost use Rattle.rounds.specs.Reading.{GivesRound, NumberedTo, PassesRound};
-ghost use Rattle.rounds.specs.RoundOf.{brought_by, Came, Takes};
+ghost use Rattle.rounds.specs.Reading.{GivesRound, PassesRound};
+ghost use Rattle.rounds.specs.RoundOf.{brought_by, Came};
 
 use crate::intake::Intake;
-use crate::round::{Paused, ReadAhead, RoundEnd, RoundRead};
+use crate::round::{ReadAhead, RoundEnd, RoundRead};
 use block_supply::Supply;
 use off_io::Source;
 use pcap_io::CaptureReader;
 use std::sync::Wait;
 
 impl Intake {
-    // Up to the end of a round, or to where it is paused.
-    fn read_up<S: Source, H: Supply>(
-        &mut self,
-        reader: &mut CaptureReader<'_, S>,
-        more: &mut H,
-    ) -> ReadAhead
-        requires ready { IsReady (place_of reader.old) }
-        requires link { (place_of reader.old).link ≡ Ethernet }
-        ensures same_source { SameLoan reader.old reader.new }
-        ensures fills { FillsAhead self.old.blocks self.old.budget (reached S.left S.faults reader.old)
-            (reached S.left S.faults reader.new) result }
-        ensures paused { IfPaused result (Lacks self.new.home self.old.blocks self.old.taken self.new.taken) }
-        ensures came { Came (brought_by H.weights H.refusals more.old)
-            (brought_by H.weights H.refusals more.new) self.old.home
-            (self.new.home + (round_of result).blocks) (λ h. weighed h self.old.stock)
-            (λ h. weighed h self.new.stock + weights_of (round_of result) h) }
-        ensures refused { IfPaused result (λ _.
-            min (H.refusals more.old + 1) (2 ^ 64 - 1) ≤ H.refusals more.new) }
-        ensures same { (self.new.blocks ≡ self.old.blocks) × (self.new.budget ≡ self.old.budget)
-            × (self.new.empties ≡ self.old.empties) × (self.new.pauses ≡ self.old.pauses) }
-        ensures budget { (1 ≤ self.old.budget) × (self.old.budget ≤ 4096) }
-        ensures takes { Takes self.old.blocks self.old.taken self.new.taken 0 (round_of result).blocks }
-    {
-        let Ok(mut lists) = self.make_blank() else {
-            return ReadAhead::Read(self.read_none());
-        };
-        let ahead = self.read_ahead(&(), reader, more, &mut lists);
-        lists.discard();
-        ahead
-    }
-
-    // All blocks come home but those of a round that is paused, however long that takes: no only where whoever has them
-    // keeps them.
+    // All blocks come home but those of a round that is paused, which is counted, however long that takes: no only
+    // where whoever has them keeps them.
     fn bring_rest<R: Wait, H: Supply>(&mut self, rt: &R, blocks: u32, more: &mut H) -> bool
         requires few { blocks ≤ self.old.blocks }
         ensures came { Came (brought_by H.weights H.refusals more.old)
             (brought_by H.weights H.refusals more.new) self.old.home self.new.home
             (λ h. weighed h self.old.stock) (λ h. weighed h self.new.stock) }
         ensures same { (self.new.blocks ≡ self.old.blocks) × (self.new.taken ≡ self.old.taken)
-            × (self.new.budget ≡ self.old.budget) × (self.new.empties ≡ self.old.empties)
-            × (self.new.pauses ≡ self.old.pauses) }
+            × (self.new.budget ≡ self.old.budget) × (self.new.empties ≡ self.old.empties) }
+        ensures paused { self.new.pauses ≡ min (self.old.pauses + 1) (2 ^ 64 - 1) }
+        ensures later { self.old.pauses ≤ self.new.pauses }
         ensures all { result ≡ true → self.new.home + blocks ≡ self.old.blocks }
         ensures ended { result ≡ false → H.ended more.new ≡ true }
     {
+        self.pauses = self.pauses.saturating_add(1);
         let rest = self.blocks() - blocks;
         for _ in rt.forever() {
             if self.home() == rest {
@@ -82,45 +50,6 @@ impl Intake {
             let _came = more.bring(&mut self.pool, rest);
         }
         unreachable!()
-    }
-
-    // Reads a paused round to its end once all blocks but its own are home. It is given up only where whoever has them
-    // keeps them.
-    fn go_on<R: Wait, S: Source, H: Supply>(
-        &mut self,
-        rt: &R,
-        paused: Paused,
-        reader: &mut CaptureReader<'_, S>,
-        more: &mut H,
-    ) -> RoundRead
-        requires kept { (at : Place) × (KeepsHead at (place_of reader.old) paused.head
-            × NumberedTo at.number paused.round.packets) }
-        requires link { (place_of reader.old).link ≡ Ethernet }
-        requires fits { paused.round.blocks + need_of paused.head.captured ≤ self.old.blocks }
-        requires fewer { length paused.round.packets < self.old.budget }
-        ensures same_source { SameLoan reader.old reader.new }
-        ensures fills { FillsBehind self.old.blocks self.old.budget (reached S.left S.faults reader.old)
-            (reached S.left S.faults reader.new) paused.head paused.round.packets result.round.packets result.end }
-        ensures captured { AllByRecursion IsCaptured (map packet_of result.round.packets) }
-        ensures need { result.round.blocks ≡ round_need (map packet_of result.round.packets) }
-        ensures came { Came (brought_by H.weights H.refusals more.old)
-            (brought_by H.weights H.refusals more.new) (self.old.home + paused.round.blocks)
-            (self.new.home + result.round.blocks) (λ h. weighed h self.old.stock + weights_of paused.round h)
-            (λ h. weighed h self.new.stock + weights_of result.round h) }
-        ensures same { (self.new.blocks ≡ self.old.blocks) × (self.new.budget ≡ self.old.budget)
-            × (self.new.empties ≡ self.old.empties) }
-        ensures paused { self.new.pauses ≡ min (self.old.pauses + 1) (2 ^ 64 - 1) }
-        ensures later_pauses { self.old.pauses ≤ self.new.pauses }
-        ensures takes { Takes self.old.blocks self.old.taken self.new.taken paused.round.blocks result.round.blocks }
-    {
-        self.pauses = self.pauses.saturating_add(1);
-        if self.bring_rest(rt, paused.round.blocks(), more) {
-            return self.read_on(paused, reader);
-        }
-        RoundRead {
-            round: paused.into_round(),
-            end: RoundEnd::NoMemory,
-        }
     }
 
     /// Reads the next round while blocks come home, as `read_round` of the rounds says it. Where a record needs blocks
@@ -164,10 +93,19 @@ impl Intake {
         ensures failed { result.end ≡ RoundEnd.ReadFault
             → Rose (S.faults (source_of reader.old)) (S.faults (source_of reader.new)) }
     {
-        let ahead = self.read_up(reader, more);
-        match ahead {
-            ReadAhead::Read(read) => read,
-            ReadAhead::Paused(paused) => self.go_on(rt, paused, reader, more),
+        let blank = self.begin();
+        let ahead = self.read_ahead(&(), reader, more, blank);
+        let paused = match ahead {
+            ReadAhead::Read(read) => return read,
+            ReadAhead::Paused(paused) => paused,
+        };
+        let used = paused.round.blocks();
+        if self.bring_rest(rt, used, more) {
+            return self.read_on(paused, reader);
+        }
+        RoundRead {
+            round: paused.into_round(),
+            end: RoundEnd::NoMemory,
         }
     }
 }

@@ -14,14 +14,14 @@ ghost use Rattle.offload_model.specs.Captured.{IsCaptured};
 ghost use Rattle.gro.specs.Slots.{packet_of};
 ghost use Rattle.reading.specs.Reading.{KeepsHead};
 ghost use Rattle.rounds.specs.Ahead.{round_of, IfPaused, Lacks};
-ghost use Rattle.rounds.specs.Filling.{reached, FillsAhead, FillsBehind, FillsWhole};
+ghost use Rattle.rounds.specs.Filling.{reached, FillsAhead, FillsBehind};
 ghost use Rattle.rounds.specs.Fresh.{NumberedFrom};
 ghost use Rattle.rounds.specs.Weights.{weights_of};
 ghost use Rattle.rounds.specs.Reading.{GivesRound, NumberedTo, PassesRound};
 ghost use Rattle.rounds.specs.RoundOf.{brought_by, Came, Takes};
 
 use crate::round::{Blank, Empty, Paused, ReadAhead, Round, RoundEnd, RoundRead, no_round};
-use crate::round_reading::{Halt, read_behind, read_more, read_records};
+use crate::round_reading::{Halt, read_behind, read_more};
 use block_pool::Pool;
 use block_supply::{RECORD_BLOCKS, Supply};
 use core::mem::replace;
@@ -165,8 +165,8 @@ impl Intake {
         self.pauses
     }
 
-    /// Memory for the packets of a round.
-    pub(crate) fn make_blank(&self) -> Result<Blank, AllocError>
+    /// Memory for the packets of a round and for their spares.
+    pub fn begin(&self) -> Result<Blank, AllocError>
         ensures none { IfOk result (λ b. (b.packets.items ≡ []) × (home b.spares ≡ 0)) }
         ensures room { IfOk result (λ b. (self.now.budget ≤ b.packets.room)
             × (2 * self.now.budget ≤ b.spares.made)) }
@@ -208,80 +208,29 @@ impl Intake {
         more.look(&mut self.pool);
     }
 
-    /// Reads a round while all blocks are home, into lists that have room for its packets and their spares, where
-    /// there was memory for these.
-    pub(crate) fn read_into<S: Source>(
-        &mut self,
-        reader: &mut CaptureReader<'_, S>,
-        blank: Result<Blank, AllocError>,
-    ) -> RoundRead
-        requires ready { IsReady (place_of reader.old) }
-        requires link { (place_of reader.old).link ≡ Ethernet }
-        requires none { IfOk blank (λ b. (b.packets.items ≡ []) × (home b.spares ≡ 0)) }
-        requires reserved { IfOk blank (λ b. (self.old.budget ≤ b.packets.room)
-            × (2 * self.old.budget ≤ b.spares.made)) }
-        requires home { self.old.home ≡ self.old.blocks }
-        ensures same_source { SameLoan reader.old reader.new }
-        ensures fills { FillsWhole self.old.blocks self.old.budget (reached S.left S.faults reader.old)
-            (reached S.left S.faults reader.new) result.round.packets result.end }
-        ensures captured { AllByRecursion IsCaptured (map packet_of result.round.packets) }
-        ensures need { result.round.blocks ≡ round_need (map packet_of result.round.packets) }
-        ensures home { self.new.home + result.round.blocks ≡ self.old.blocks }
-        ensures named { (h : ℕ → ℕ) → weighed h self.new.stock + weights_of result.round h ≡ weighed h self.old.stock }
-        ensures unread { OnErr blank (self.new ≡ self.old) }
-        ensures same { (self.new.blocks ≡ self.old.blocks) × (self.new.budget ≡ self.old.budget)
-            × (self.new.empties ≡ self.old.empties) × (self.new.pauses ≡ self.old.pauses) }
-        ensures budget { (1 ≤ self.old.budget) × (self.old.budget ≤ 4096) }
-        ensures takes { Takes self.old.blocks self.old.taken self.new.taken 0 result.round.blocks }
-    {
-        let _ = self.pool.taken();
-        let Blank {
-            mut packets,
-            mut spares,
-        } = match blank {
-            Ok(blank) => blank,
-            Err(_) => return no_round(self.alloc),
-        };
-        let (blocks, end) = read_records(
-            self.alloc,
-            &mut self.pool,
-            &mut self.hold,
-            reader,
-            self.budget as usize,
-            &mut packets,
-            &mut spares,
-        );
-        RoundRead {
-            round: Round {
-                packets,
-                spares,
-                blocks,
-            },
-            end,
-        }
-    }
-
-    /// Reads the next round beside the work of another, into lists that are lent for that. It is paused where a record
-    /// needs blocks that aren't home and don't come: the header of that record is kept. The runtime goes with it for
-    /// the borrow checker's part alone, by which what a side borrows ends with what both borrow.
+    /// Reads the next round, into lists that have room for its packets and their spares; where there was no memory for
+    /// these none is read. It is paused where a record needs blocks that aren't home and don't come: the header of that
+    /// record is kept. The runtime goes with it for the borrow checker's part alone, by which what a side borrows ends
+    /// with what both borrow.
     pub fn read_ahead<R: Sync, S: Source, H: Supply>(
         &mut self,
         _rt: &R,
         reader: &mut CaptureReader<'_, S>,
         more: &mut H,
-        lists: &mut Blank,
+        blank: Result<Blank, AllocError>,
     ) -> ReadAhead
         requires ready { IsReady (place_of reader.old) }
         requires link { (place_of reader.old).link ≡ Ethernet }
-        requires none { (lists.old.packets.items ≡ []) × (home lists.old.spares ≡ 0) }
-        requires reserved { (self.old.budget ≤ lists.old.packets.room) × (2 * self.old.budget ≤ lists.old.spares.made) }
+        requires none { IfOk blank (λ b. (b.packets.items ≡ []) × (home b.spares ≡ 0)) }
+        requires reserved { IfOk blank (λ b. (self.old.budget ≤ b.packets.room)
+            × (2 * self.old.budget ≤ b.spares.made)) }
         ensures same_source { SameLoan reader.old reader.new }
         ensures fills { FillsAhead self.old.blocks self.old.budget (reached S.left S.faults reader.old)
             (reached S.left S.faults reader.new) result }
         ensures paused { IfPaused result (Lacks self.new.home self.old.blocks self.old.taken self.new.taken) }
         ensures refused { IfPaused result (λ _.
             min (H.refusals more.old + 1) (2 ^ 64 - 1) ≤ H.refusals more.new) }
-        ensures spent { (lists.new.packets.items ≡ []) × (home lists.new.spares ≡ 0) }
+        ensures unread { OnErr blank (self.new ≡ self.old) }
         ensures came { Came (brought_by H.weights H.refusals more.old)
             (brought_by H.weights H.refusals more.new) self.old.home
             (self.new.home + (round_of result).blocks) (λ h. weighed h self.old.stock)
@@ -295,7 +244,10 @@ impl Intake {
         let Blank {
             mut packets,
             mut spares,
-        } = replace(lists, Blank::none(self.alloc));
+        } = match blank {
+            Ok(blank) => blank,
+            Err(_) => return ReadAhead::Read(no_round(self.alloc)),
+        };
         let mut kept = None;
         let (blocks, halt) = read_more(
             self.alloc,

@@ -32,27 +32,6 @@ impl Blank {
         let packets = Packets::with_capacity(alloc, budget as usize)?;
         Ok(Blank { packets, spares })
     }
-
-    /// No memory.
-    pub(crate) fn none(alloc: Global) -> Blank
-        ensures none { (result.packets.items ≡ []) × (home result.spares ≡ 0) }
-    {
-        Blank {
-            packets: Packets::new(alloc),
-            spares: Pool::new(alloc),
-        }
-    }
-
-    /// The memory is given up, and no block with it.
-    pub fn discard(self)
-        requires none { (self.packets.items ≡ []) × (home self.spares ≡ 0) }
-    {
-        let Blank {
-            packets,
-            spares: _spares,
-        } = self;
-        packets.discard();
-    }
 }
 
 /// The records of a round, in blocks. It must be spent: worked or dropped, by the rounds that read it.

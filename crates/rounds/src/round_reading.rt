@@ -8,7 +8,7 @@ ghost use Rattle.pcap_io.specs.Places.{IsReady};
 ghost use Rattle.pcap_io.specs.Readers.{place_of, source_of, SameLoan};
 ghost use Rattle.offload_model.specs.Need.{need_of};
 ghost use Rattle.reading.specs.Reading.{KeepsHead};
-ghost use Rattle.rounds.specs.Filling.{reached, FillsBehind, FillsOn, FillsWhole};
+ghost use Rattle.rounds.specs.Filling.{reached, FillsBehind, FillsOn};
 ghost use Rattle.rounds.specs.Reading.{IsHaltOf, WaitsOver};
 ghost use Rattle.rounds.specs.RoundOf.{at_hand, brought_by, Came, IsHold, IsRoundOf, Takes};
 
@@ -154,45 +154,6 @@ pub(crate) fn read_behind<S: Source>(
     let (more, kept) = (&mut AllHome::new(), &mut None);
     let (blocks, halt) = read_more(
         alloc, pool, hold, reader, more, kept, budget, packets, spares, used,
-    );
-    match halt {
-        Halt::Ended(end) => (blocks, end),
-        Halt::Lacking => unreachable!(),
-    }
-}
-
-/// Reads the records of a round, up to `budget` of them, while all blocks are home: the blocks that they have, and why
-/// there are no more.
-pub(crate) fn read_records<S: Source>(
-    alloc: Global,
-    pool: &mut Pool,
-    hold: &mut VecDeque<Sole>,
-    reader: &mut CaptureReader<'_, S>,
-    budget: usize,
-    packets: &mut Packets,
-    spares: &mut Pool,
-) -> (u32, RoundEnd)
-    requires ready { IsReady (place_of reader.old) }
-    requires link { (place_of reader.old).link ≡ Ethernet }
-    requires hold { IsHold hold.old.items (deque_capacity hold.old) }
-    requires made { pool.old.made ≤ 65536 }
-    requires none { (packets.old.items ≡ []) × (home spares.old ≡ 0) }
-    requires reserved { budget ≤ packets.old.room }
-    requires room { 2 * budget ≤ spares.old.made }
-    requires home { home pool.old ≡ pool.old.made }
-    ensures same_source { SameLoan reader.old reader.new }
-    ensures fills { FillsWhole pool.old.made budget (reached S.left S.faults reader.old)
-        (reached S.left S.faults reader.new) packets.new.items result.1 }
-    ensures round { IsRoundOf packets.new.items (home spares.new) result.0 }
-    ensures home { home pool.new + result.0 ≡ pool.old.made }
-    ensures named { (h : ℕ → ℕ) → at_hand pool.new packets.new.items spares.new h ≡ weighed h pool.old.blocks }
-    ensures made { pool.new.made ≡ pool.old.made }
-    ensures takes { Takes pool.old.made pool.old.taken pool.new.taken 0 result.0 }
-    ensures hold { IsHold hold.new.items (deque_capacity hold.new) }
-{
-    let (more, kept) = (&mut AllHome::new(), &mut None);
-    let (blocks, halt) = read_more(
-        alloc, pool, hold, reader, more, kept, budget, packets, spares, 0,
     );
     match halt {
         Halt::Ended(end) => (blocks, end),

@@ -26,7 +26,8 @@ ghost use Rattle.rounds.specs.Weights.{weights_of, weights_left, weights_worked}
 use crate::bench::Bench;
 use crate::handler::RoundHandler;
 use crate::intake::Intake;
-use crate::round::{Rest, Round, RoundEnd, RoundRead, Worked};
+use crate::round::{ReadAhead, Rest, Round, RoundEnd, RoundRead, Worked};
+use block_supply::AllHome;
 use lanes::{LanePlan, Works};
 use off_io::{Sink, Source, WriteFault};
 use pcap_io::{CaptureReader, FileHead};
@@ -177,7 +178,16 @@ impl Rounds {
             → Rose (S.faults (source_of reader.old)) (S.faults (source_of reader.new)) }
     {
         let blank = self.bench.take_blank();
-        self.intake.read_into(reader, blank)
+        let ahead = self
+            .intake
+            .read_ahead(&(), reader, &mut AllHome::new(), blank);
+        match ahead {
+            ReadAhead::Read(read) => read,
+            ReadAhead::Paused(paused) => {
+                paused.discard();
+                unreachable!()
+            }
+        }
     }
 
     /// Works a round: queue by queue what the runs of its flows come to, in the order of their first packets, and tap

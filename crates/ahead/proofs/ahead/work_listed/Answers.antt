@@ -104,8 +104,8 @@ returns-clause-home g c =
       ap (λ (s : RoundsState). s.blocks) c.rounds.view_is,
     )
 
-pub returns-in_default-clause-fills : goal.returns-in_default-clause-fills
-returns-in_default-clause-fills g c =
+pub returns-then-is_err-clause-fills : goal.returns-then-is_err-clause-fills
+returns-then-is_err-clause-fills g c =
     let n = c.read_none-none in
     let i = c.args.rounds.now in
     unread_ahead i.blocks i.budget (reached g.S.Source.left g.S.Source.faults c.args.reader.now) n.result n.ensures.none.0 n.ensures.none.2 n.ensures.end
@@ -126,7 +126,7 @@ returns-clause-works g c =
     let is = c.close_work.ensures.worked in
     let ps = map packet_of c.args.round.packets in
     let options = options_of c.args.rounds.now in
-    let lent = subst (λ (b : BenchState). WorksAs (options_at b) b.keep ps w.result.1) c.take_blank.ensures.same w.ensures.works in
+    let lent = subst (λ (b : BenchState). WorksAs (options_at b) b.keep ps w.result.1) c.make_room.ensures.same w.ensures.works in
     let works = subst (λ (s : RoundsState). WorksAs (options_of s) s.keep ps w.result.1) c.rounds.view_is lent in
     record {
       records = closed_ok (λ (v : WorkedState). worked_records v ≡ round_records options ps) w.result.1 c.close_work.result is works.records;

@@ -1,4 +1,4 @@
-use Rattle.std.proofs.Common.{◌≡◌, ◌+◌, ◌≤◌, ◌∙◌, Option, None, Some, ap, refl, sym, subst}
+use Rattle.std.proofs.Common.{◌≡◌, ◌+◌, ◌≤◌, ◌∙◌, IfOk, Ok, Option, None, Result, Some, ap, refl, sym, subst}
 use Rattle.block_pool.specs.PoolState.{home, weighed}
 use Rattle.std.proofs.lemmas.Option.{same_Some}
 use Rattle.rounds.specs.Ahead.{round_of}
@@ -7,7 +7,7 @@ use Rattle.rounds.specs.Reading.{WaitsOver}
 use Rattle.rounds.specs.Weights.{weights_of}
 use Rattle.rounds.specs.declared.round.ReadAhead.{ReadAhead}
 use Rattle.rounds.specs.RoundsState.{IntakeState, RoundState}
-use Rattle.rounds.proofs.Pausing.{came_whole, ends_ahead, waits_ahead}
+use Rattle.rounds.proofs.Pausing.{came_whole, ends_ahead, unread_ahead, waits_ahead}
 use Rattle.rounds.proofs.Counting.{came_read}
 use Rattle.rounds.specs.RoundOf.{brought_by, Came, Takes}
 use Rattle.rounds.specs.declared.round.Blank.{Blank}
@@ -16,26 +16,36 @@ use Rattle.rounds.proofs.intake.Intake.read_ahead.Goals.{in-Ended, in-Lacking+in
 use Rattle.rounds.proofs.intake.Intake.read_ahead.Given.{Over}
 use Rattle.rounds.proofs.intake.Intake.read_ahead.Goals as goal
 
+-- of the lists that there was memory for
+of_blank : {E : Type 0} (r : Result Blank E) (b : Blank) (P : Blank → Type 0) → r ≡ Ok b → IfOk r P → P b
+of_blank r b P is p = subst (λ (x : Result Blank _). IfOk x P) is p
+
+pub returns-in-Err-clause-fills : goal.returns-in-Err-clause-fills
+returns-in-Err-clause-fills g c =
+    let n = c.no_round in
+    let i = c.args.self.now in
+    unread_ahead i.blocks i.budget (reached g.S.Source.left g.S.Source.faults c.args.reader.now) n.result n.ensures.none.0 n.ensures.none.2 n.ensures.end
+
 pub read_more-blocks-requires-clause-round : goal.read_more-blocks-requires-clause-round
 read_more-blocks-requires-clause-round g c =
-    let lists = c.replace-packets.result in
-    let none = ap (λ (b : Blank). b.packets.items) c.replace-packets.ensures.value ∙ c.requires.none.0 in
-    let bare = ap (λ (b : Blank). home b.spares) c.replace-packets.ensures.value ∙ c.requires.none.1 in
+    let lists = c.in-Ok.blank in
+    let none = (of_blank c.args.blank c.in-Ok.blank _ c.in-Ok.is c.requires.none).0 in
+    let bare = (of_blank c.args.blank c.in-Ok.blank _ c.in-Ok.is c.requires.none).1 in
     round_none lists.packets.items (home lists.spares) 0 none bare refl
 
 pub invariant_of-round : goal.invariant_of-round
 invariant_of-round g c =
     let r = c.read_more-blocks in
     let n = c.args.reader.now.place.number in
-    let none = ap (λ (b : Blank). b.packets.items) c.replace-packets.ensures.value ∙ c.requires.none.0 in
-    (r.ensures.round, (n, whole_numbered n c.replace-packets.result.packets.items r.new.packets.items none r.ensures.fills.numbers))
+    let none = (of_blank c.args.blank c.in-Ok.blank _ c.in-Ok.is c.requires.none).0 in
+    (r.ensures.round, (n, whole_numbered n c.in-Ok.blank.packets.items r.new.packets.items none r.ensures.fills.numbers))
 
 pub invariant_of-round-in-Lacking : goal.invariant_of-round-in-Lacking
 invariant_of-round-in-Lacking g c =
     let r = c.read_more-blocks in
     let n = c.args.reader.now.place.number in
-    let none = ap (λ (b : Blank). b.packets.items) c.replace-packets.ensures.value ∙ c.requires.none.0 in
-    (r.ensures.round, (n, whole_numbered n c.replace-packets.result.packets.items r.new.packets.items none r.ensures.fills.numbers))
+    let none = (of_blank c.args.blank c.in-Ok.blank _ c.in-Ok.is c.requires.none).0 in
+    (r.ensures.round, (n, whole_numbered n c.in-Ok.blank.packets.items r.new.packets.items none r.ensures.fills.numbers))
 
 pub returns-clause-fills : goal.returns-clause-fills
 returns-clause-fills g c =
@@ -44,8 +54,8 @@ returns-clause-fills g c =
     let from = reached g.S.Source.left g.S.Source.faults c.args.reader.now in
     let to = reached g.S.Source.left g.S.Source.faults r.new.reader in
     let i = c.self.inside in
-    let first = c.replace-packets.result.packets.items in
-    let none = ap (λ (b : Blank). b.packets.items) c.replace-packets.ensures.value ∙ c.requires.none.0 in
+    let first = c.in-Ok.blank.packets.items in
+    let none = (of_blank c.args.blank c.in-Ok.blank _ c.in-Ok.is c.requires.none).0 in
     let round : RoundState = record { packets = r.new.packets.items; spares = r.new.spares.blocks; blocks = r.result.0 } in
     let is : FillsAhead i.pool.made i.budget from to c.match-halt.result = elim c.match-halt.branch [
       | in-Ended b ↦ subst (FillsAhead i.pool.made i.budget from to) (sym b.result-is)
@@ -70,9 +80,9 @@ round_is g c = elim c.match-halt.branch [
 pub returns-clause-came : goal.returns-clause-came
 returns-clause-came g c =
     let r = c.read_more-blocks in
-    let lists = c.replace-packets.result in
-    let none = ap (λ (b : Blank). b.packets.items) c.replace-packets.ensures.value ∙ c.requires.none.0 in
-    let bare = ap (λ (b : Blank). home b.spares) c.replace-packets.ensures.value ∙ c.requires.none.1 in
+    let lists = c.in-Ok.blank in
+    let none = (of_blank c.args.blank c.in-Ok.blank _ c.in-Ok.is c.requires.none).0 in
+    let bare = (of_blank c.args.blank c.in-Ok.blank _ c.in-Ok.is c.requires.none).1 in
     let round : RoundState = record { packets = r.new.packets.items; spares = r.new.spares.blocks; blocks = r.result.0 } in
     let from = brought_by g.H.Supply.weights g.H.Supply.refusals c.args.more.now in
     let to = brought_by g.H.Supply.weights g.H.Supply.refusals r.new.more in
