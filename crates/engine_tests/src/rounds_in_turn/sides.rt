@@ -49,6 +49,7 @@ impl<N: Stocked> Supply for Shelf<N> {
     ghost ended = { λ _. true };
 
     fn bring(&mut self, pool: &mut Pool, need: u32) -> bool {
+        self.refused = self.refused.saturating_add(1);
         self.look(pool);
         need <= pool.home()
     }
@@ -87,7 +88,7 @@ impl Supply for NoneComes {
     ghost ended = { λ _. true };
 
     fn bring(&mut self, pool: &mut Pool, need: u32) -> bool {
-        self.look(pool);
+        self.refused = self.refused.saturating_add(1);
         need <= pool.home()
     }
 
