@@ -13,7 +13,7 @@ use std::alloc::{AllocError, Global};
 use std::sync::{Arc, Wait};
 
 /// Places for the lists of all 72 lanes of as many rounds as may be read ahead, three, and for one more of each, once
-/// it was written. Where all are taken a list stays with its round.
+/// it was written. Where all are taken a list stays with who gives it.
 const LISTS: u32 = 219;
 
 /// The end of the side that reads, which takes lists and gives none.

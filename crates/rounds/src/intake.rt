@@ -183,14 +183,14 @@ impl Intake {
         no_round(self.alloc)
     }
 
-    /// Blocks that were out come home on a shelf. None is taken.
-    pub fn bring_in(&mut self, shelf: Pool)
-        requires room { self.old.home + home shelf ≤ self.old.blocks }
-        ensures home { self.new ≡ record self.old { home = self.old.home + home shelf; stock = self.new.stock } }
-        ensures named { (h : ℕ → ℕ) → weighed h self.new.stock ≡ weighed h self.old.stock + weighed h shelf.blocks }
+    /// Blocks that were out come home on a list. None is taken.
+    pub fn bring_in(&mut self, list: Pool)
+        requires room { self.old.home + home list ≤ self.old.blocks }
+        ensures home { self.new ≡ record self.old { home = self.old.home + home list; stock = self.new.stock } }
+        ensures named { (h : ℕ → ℕ) → weighed h self.new.stock ≡ weighed h self.old.stock + weighed h list.blocks }
     {
-        let mut shelf = shelf;
-        self.pool.refill(&mut shelf);
+        let mut list = list;
+        self.pool.refill(&mut list);
     }
 
     /// Blocks that were out come home before a round is read, for which none is needed yet. None is taken.

@@ -47,7 +47,7 @@
 //!   its number and its need. After a fault, or want of memory, it is that of the bytes that are gone, or a prefix of
 //!   it. All blocks are home whatever the ending (`home`).
 //! - `taken` is the count of [`Intake`]'s own takes: `read_round`, `read_ahead`, `read_on` and what goes by them raise
-//!   it, and no other call changes it (`home`, `same`), also where blocks come home on a shelf (`bring_in`).
+//!   it, and no other call changes it (`home`, `same`), also where blocks come home on a list (`bring_in`).
 //! - `sum`, `home` of [`Intake`], `brings` of [`Bench`]: where one side reads and the other works no block is lost
 //!   between them, and `given`, `puts` and `gives` say of a round on its way what `merge_all` says of it.
 //! - `worked`, `brings` and `gave` where a giver is lent: what it gave and what comes home are together the round's
@@ -148,7 +148,7 @@
 //!   read them (`all_merged`): so the loop knows of no bytes, and a driver with threads has the clauses of `merge_all`
 //!   too.
 //! - **`Rounds` are two sides**, an intake that reads and has the pool, and a bench that works and has none. Where
-//!   blocks come home is told at each call: in turn it is the intake's pool, beside a shelf that goes back to it. So
+//!   blocks come home is told at each call: in turn it is the intake's pool, beside a list that goes back to it. So
 //!   both are lent side by side, as two fields, with no memory and no way back; and a call that takes no pool can't set
 //!   the count of what was taken.
 //! - **The fields are public**, since two parts of one value can't be lent by a call whose invariant speaks of both
