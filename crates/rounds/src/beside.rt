@@ -75,7 +75,8 @@ impl Intake {
         ensures captured { AllByRecursion IsCaptured (map packet_of result.round.packets) }
         ensures numbers { NumberedFrom (place_of reader.old).number result.round.packets }
         ensures need { result.round.blocks ≡ round_need (map packet_of result.round.packets) }
-        ensures sum { self.new.home + result.round.blocks + H.weights more.old (λ _. 1) ≡ self.old.home + H.weights more.new (λ _. 1) }
+        ensures sum { self.new.home + result.round.blocks + H.weights more.old (λ _. 1)
+            ≡ self.old.home + H.weights more.new (λ _. 1) }
         ensures named { (h : ℕ → ℕ) → weighed h self.new.stock + weights_of result.round h + H.weights more.old h
             ≡ weighed h self.old.stock + H.weights more.new h }
         ensures within { result.round.blocks ≤ self.old.blocks }
