@@ -1,0 +1,4 @@
+-- record by record
+pub mod Passing
+-- more bytes make nothing less
+mod Growing

@@ -1,0 +1,3 @@
+pub mod Filling
+pub mod Wire
+pub mod Passing
