@@ -124,9 +124,15 @@ module _ (blocks : ℕ) (o : Wiring) (old new : Place) (r : Packet) (fits : need
       → Moves blocks o old new h k (Err faults.WriteFault) bytes left
   not_moved h k bytes left passes front =
       let e = goes_on bytes left passes [] in
-      let whole = prefix_more h k (wire_bytes o old.file.order r) (wiring blocks o new []).output front in
-      ((passes.0, passes.1, subst (λ (xs : List ℕ). AppendsPrefix h k (wiring blocks o old xs).output) (append-nil passes.0)
-      (subst (λ (z : Passed). AppendsPrefix h k z.output) (sym e) whole)), tt)
+      let whole = prefix_more h k (wire_bytes o old.file.order r) (wiring blocks o new []).output front in (
+        (
+          passes.0,
+          passes.1,
+          subst (λ (xs : List ℕ). AppendsPrefix h k (wiring blocks o old xs).output) (append-nil passes.0)
+              (subst (λ (z : Passed). AppendsPrefix h k z.output) (sym e) whole),
+        ),
+        tt,
+      )
 
 pub moved_given : (a b h k : Option (List ℕ)) (blocks used : ℕ) (o : Wiring) (old new : Place) (front : List ℕ) (p : Held) → length front ≡ 0
     → need_of (length (packet_of p).frame) ≤ blocks → new.file ≡ old.file

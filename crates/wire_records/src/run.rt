@@ -167,14 +167,7 @@ impl WireRun {
             Err(stop) => return stopped(stop),
         }
         let packet = only_packet(&mut self.packets);
-        let wrote = wire_packet(
-            sink,
-            &file,
-            wiring,
-            packet,
-            &mut self.pool,
-            &mut self.out,
-        );
+        let wrote = wire_packet(sink, &file, wiring, packet, &mut self.pool, &mut self.out);
         self.pool.refill(&mut self.spares);
         match wrote {
             Ok(()) => Ok(Moved::One),

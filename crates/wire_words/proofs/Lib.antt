@@ -1,0 +1,2 @@
+mod NumberReads
+mod Lines
