@@ -1,3 +1,4 @@
 pub mod Filling
 pub mod Wire
 pub mod Passing
+pub mod Counting

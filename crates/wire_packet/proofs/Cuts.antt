@@ -25,11 +25,10 @@ cut_if b mss p e = ap (λ x. if x then segments_by (cut_head mss p.frame) p else
 abbrev no_headers : Layout
 no_headers = record { headers = []; payload_at = 0 }
 
-pub no_layout : (mss : ℕ) (p : Packet) → None ≡ shape_of p.frame → cut_of mss p ≡ p ∷ []
+pub no_layout : (mss : ℕ) (p : Packet) → None ≡ shape_of p.frame → is_cut mss p ≡ false
 no_layout mss p e =
     let none : layout_of p.frame ≡ no_headers = ap (λ (o : Option Layout). unwrap_or o no_headers) (sym e) in
-    cut_if false mss p
-    (ap (λ (l : Layout). is_tcp_by (last_header l.headers) && (nat_lt mss (payload_length p.frame) && is_lawful_super (cut_head mss p.frame) p)) none)
+    ap (λ (l : Layout). is_tcp_by (last_header l.headers) && (nat_lt mss (payload_length p.frame) && is_lawful_super (cut_head mss p.frame) p)) none
 
 -- ---- of a frame that has a shape
 
@@ -63,14 +62,12 @@ module _ (mss number sec frac original : ℕ) (f : List ℕ) (l : Layout) (e : S
   pub head_is : cut_head mss f ≡ head_by mss payload
   head_is = ap (head_by mss) payload_is
 
-  pub not_tcp : is_tcp_by (last_header l.headers) ≡ false → cut_of mss p ≡ p ∷ []
+  pub not_tcp : is_tcp_by (last_header l.headers) ≡ false → is_cut mss p ≡ false
   not_tcp is =
-      cut_if false mss p
       (ap (λ b. b && (nat_lt mss (payload_length f) && is_lawful_super (cut_head mss f) p)) (ap (λ (x : Layout). is_tcp_by (last_header x.headers)) layout_is ∙ is))
 
-  pub not_long : payload ≤ mss → cut_of mss p ≡ p ∷ []
+  pub not_long : payload ≤ mss → is_cut mss p ≡ false
   not_long le =
-      cut_if false mss p
       (both_or (carries_tcp f) (nat_lt mss (payload_length f)) (le-ltb mss (payload_length f) (omega (arith, le, payload_is))) (is_lawful_super (cut_head mss f) p))
 
   module _ (h : OffHead2) (is : h ≡ head_by mss payload) (tcp : is_tcp_by (last_header l.headers) ≡ true) (long : mss < payload) (low : original < 2 ^ 31) (short : length f ≤ most_frame) where
@@ -93,13 +90,16 @@ module _ (mss number sec frac original : ℕ) (f : List ℕ) (l : Layout) (e : S
         ∙ or_false (is_lawful_super (head_by mss payload) (packet 0 0 0 original f))
         ∙ cuttable_alike (shape_of f) number sec frac original f (head_by mss payload)
 
-    pub cut_so : IsLawfulBehind (V2 h) (original + 16) f → cut_of mss p ≡ segments_by h p
-    cut_so lawful =
+    pub cut_true : IsLawfulBehind (V2 h) (original + 16) f → is_cut mss p ≡ true
+    cut_true lawful =
         let here : behind ≡ true = subst (λ (x : OffHead2). IsLawfulBehind (V2 x) (original + 16) f) is lawful in
-        cut_if true mss p (by_test ∙ sym behind_is ∙ here) ∙ ap (λ (x : OffHead2). segments_by x p) (head_is ∙ sym is)
+        by_test ∙ sym behind_is ∙ here
 
-    pub cut_not : (IsLawfulBehind (V2 h) (original + 16) f → ⊥) → cut_of mss p ≡ p ∷ []
-    cut_not unlawful = cut_if false mss p (by_test ∙ sym behind_is ∙ not_true behind refl)
+    pub cut_so : IsLawfulBehind (V2 h) (original + 16) f → cut_of mss p ≡ segments_by h p
+    cut_so lawful = cut_if true mss p (cut_true lawful) ∙ ap (λ (x : OffHead2). segments_by x p) (head_is ∙ sym is)
+
+    pub cut_not : (IsLawfulBehind (V2 h) (original + 16) f → ⊥) → is_cut mss p ≡ false
+    cut_not unlawful = by_test ∙ sym behind_is ∙ not_true behind refl
       where
         not_true : (b : Bool) → behind ≡ b → behind ≡ false
         not_true false q = q

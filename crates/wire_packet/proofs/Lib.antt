@@ -4,3 +4,5 @@ mod Packets
 mod Fillings
 -- how a packet is cut, case by case
 mod Cuts
+-- what is counted
+mod Counted

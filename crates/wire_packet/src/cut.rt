@@ -7,7 +7,7 @@ ghost use Rattle.frame_layout.specs.Segment.{last_header};
 ghost use Rattle.skb.specs.Fronts.{IsFronted};
 ghost use Rattle.skb.specs.SkbState.{buffer_bytes};
 ghost use Rattle.gso.specs.Planning.{IsPlanOf, packets_by};
-ghost use Rattle.wire_model.specs.Wire.{cut_of, is_tcp_by};
+ghost use Rattle.wire_model.specs.Wire.{cut_of, is_cut, is_tcp_by};
 
 use crate::front::front_bytes;
 use frame_layout::{Header, Layer, shape};
@@ -54,31 +54,33 @@ fn cut_head(mss: u32, payload: u32) -> OffHead2
 }
 
 /// How a packet is cut: a TCP frame with more than `mss` bytes of payload, which passes the test of a merged record,
-/// into the least number of segments. Any other is one packet, as it is.
-pub fn plan_cut(mss: u32, skb: &Skb, original: u32) -> Plan
+/// into the least number of segments. Any other is one packet, as it is. And whether it is cut.
+pub fn plan_cut(mss: u32, skb: &Skb, original: u32) -> (Plan, bool)
     requires mss { (1 ≤ mss) × (mss ≤ 65535) }
     requires front { IsFronted skb.now }
     requires short { length (buffer_bytes skb.now) ≤ most_frame }
     requires original { original < 2 ^ 31 }
     ensures plan { (number sec frac : ℕ) → cut_of mss (packet number sec frac original (buffer_bytes skb.now))
-        ≡ packets_by result (packet number sec frac original (buffer_bytes skb.now)) }
-    ensures ready { IsPlanOf skb.now result }
+        ≡ packets_by result.0 (packet number sec frac original (buffer_bytes skb.now)) }
+    ensures cut { (number sec frac : ℕ) → is_cut mss (packet number sec frac original (buffer_bytes skb.now))
+        ≡ result.1 }
+    ensures ready { IsPlanOf skb.now result.0 }
 {
     let len = skb.len();
     let front = front_bytes(skb);
     let Some(layout) = shape(front) else {
-        return Plan::Single;
+        return (Plan::Single, false);
     };
     if !carries_tcp(layout.headers()) {
-        return Plan::Single;
+        return (Plan::Single, false);
     }
     let payload = (len - layout.payload_at()) as u32;
     if payload <= mss {
-        return Plan::Single;
+        return (Plan::Single, false);
     }
     let head = AnyHead::V2(cut_head(mss, payload));
     match check_super(&head, skb, original + OFF_HEAD2_LEN as u32) {
-        Ok(plan) => plan,
-        Err(_) => Plan::Single,
+        Ok(plan) => (plan, true),
+        Err(_) => (Plan::Single, false),
     }
 }

@@ -16,6 +16,7 @@ ghost use Rattle.gso.specs.Planning.{IsPlanOf, packets_by};
 ghost use Rattle.reading.specs.Home.{Adds};
 ghost use Rattle.records.specs.Records.{Writes};
 ghost use Rattle.wire_model.specs.Filling.{packet_fates};
+ghost use Rattle.wire_model.specs.Counting.{counted, counts_by};
 ghost use Rattle.wire_model.specs.Passing.{wire_bytes};
 ghost use Rattle.wire_fill.specs.Fated.{IsFated};
 
@@ -29,7 +30,8 @@ use off_io::{Sink, WriteFault};
 use pcap_io::FileHead;
 use reading::bring_blocks;
 use records::{Time, write_record, write_segments};
-use wire_model::Wiring;
+use wire_fill::Fates;
+use wire_model::{Counts, Wiring};
 
 // Writes the packets of a plan, from the packet's own buffer.
 fn write_plan<K: Sink>(
@@ -77,8 +79,18 @@ fn bring_packet(pool: &mut Pool, packet: Slot)
     bring_blocks(pool, skb);
 }
 
+// Counts a packet by what became of its sums, whether it is cut, and its length.
+fn count(counts: &mut Counts, fates: Fates, is_cut: bool, len: usize)
+    ensures counts { counts.new ≡ counts_by fates.filled fates.wrong is_cut len counts.old }
+{
+    counts.filled = counts.filled.saturating_add(u64::from(fates.filled));
+    counts.wrong = counts.wrong.saturating_add(u64::from(fates.wrong));
+    counts.cut = counts.cut.saturating_add(u64::from(is_cut));
+    counts.long = counts.long.saturating_add(u64::from(!is_cut && len > 1514));
+}
+
 /// Writes what stands on the wire of a packet, and brings its blocks home, whatever the answer: its sums filled in, and
-/// its segments, or the packet, each behind its record header. It takes no memory.
+/// its segments, or the packet, each behind its record header. What was done is counted. It takes no memory.
 ///
 /// `WriteFault` only where the sink's count of faults rose; a prefix was then written.
 pub fn wire_packet<K: Sink>(
@@ -88,6 +100,7 @@ pub fn wire_packet<K: Sink>(
     packet: Slot,
     pool: &mut Pool,
     out: &mut Outcomes,
+    counts: &mut Counts,
 ) -> Result<(), WriteFault>
     requires mss { (1 ≤ wiring.mss) × (wiring.mss ≤ 65535) }
     requires captured { IsCaptured (packet_of packet) }
@@ -98,10 +111,13 @@ pub fn wire_packet<K: Sink>(
         (wire_bytes wiring file.now.order (packet_of packet)) result }
     ensures adds { Adds (count_of packet) (λ h. weighed_in h packet.skb) pool.old pool.new }
     ensures out { out.new ≡ out.old }
+    ensures counts { counts.new ≡ counted wiring (packet_of packet) counts.old }
 {
     let mut packet = packet;
-    fill_packet(&mut packet.skb, packet.original, wiring.fills_all, out);
-    let plan = plan_cut(wiring.mss, &packet.skb, packet.original);
+    let len = packet.skb.len();
+    let fates = fill_packet(&mut packet.skb, packet.original, wiring.fills_all, out);
+    let (plan, is_cut) = plan_cut(wiring.mss, &packet.skb, packet.original);
+    count(counts, fates, is_cut, len);
     let wrote = write_plan(sink, file, &packet, &plan);
     bring_packet(pool, packet);
     wrote
