@@ -30,7 +30,9 @@ use Rattle.segmenting.specs.declared.segment.SegFault.TheVariants as faults
 use Rattle.wire_model.specs.declared.wiring.Wiring.{Wiring}
 use Rattle.wire_model.specs.Passing.{wire_bytes, wiring}
 use Rattle.wire_model.proofs.Passing.{wiring_goes_by_record}
-use Rattle.wire_records.specs.Moving.{IsMovedOf, Moves}
+use Rattle.wire_model.specs.declared.counts.Counts.{Counts}
+use Rattle.wire_model.specs.Counting.{counted}
+use Rattle.wire_records.specs.Moving.{CountsOne, IsMovedOf, Moves}
 
 abbrev passed : List ℕ → Stop → Passed
 passed output stop = record { output = output; stop = stop }
@@ -150,3 +152,12 @@ not_moved_given a b h k blocks used o old new front p none fits file told wrote 
     Told-weaker a b (GivesRecord used blocks old new front (Ok p)) (Moves blocks o old new h k (Err faults.WriteFault))
     (λ bytes left passes. not_moved blocks o old new (packet_of p) fits file h k bytes left
     (subst (λ (r : Packet). Passes old new (r ∷ []) bytes left) (record_is front p none) passes) wrote) told
+
+-- a record, and what was counted of it
+pub counts_one : (a b : Option (List ℕ)) (blocks used : ℕ) (o : Wiring) (before now : Counts) (old new : Place) (front : List ℕ) (p : Held) → length front ≡ 0
+    → now ≡ counted o (packet_of p) before → Told a b (GivesRecord used blocks old new front (Ok p)) → Told a b (CountsOne o before now old new)
+counts_one a b blocks used o before now old new front p none same told =
+    Told-weaker a b (GivesRecord used blocks old new front (Ok p)) (CountsOne o before now old new)
+    (λ bytes left passes.
+    let q : Passes old new (packet_of p ∷ []) bytes left = subst (λ (r : Packet). Passes old new (r ∷ []) bytes left) (record_is front p none) passes in
+    (q.0, (packet_of p, (q.1, (λ tail. (q.2 tail).found), same)))) told

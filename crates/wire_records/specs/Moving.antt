@@ -2,6 +2,8 @@
 use Rattle.std.specs.Prelude.{◌≡◌, ℕ, Option, List, [], ◌++◌, Result, Ok, Err}
 use Rattle.std.specs.Io.KnownBytes.{Appends, Keeps}
 use Rattle.pcap_io.specs.declared.place.Place.{Place}
+use Rattle.pcap_io.specs.Capture.{Packet, one_more}
+use Rattle.pcap_io.specs.Places.{found_at}
 use Rattle.offload_model.specs.Passing.{Passes}
 use Rattle.offload_model.specs.Steps.{GoesOn}
 use Rattle.reading.specs.declared.record.Stop.{Stop}
@@ -11,6 +13,8 @@ use Rattle.segmenting.specs.declared.segment.Moved.TheVariants.{One, End}
 use Rattle.segmenting.specs.declared.segment.SegFault.{SegFault}
 use Rattle.segmenting.specs.declared.segment.SegFault.TheVariants as faults
 use Rattle.segmenting.specs.Segmenting.{WritesNone, ending_of}
+use Rattle.wire_model.specs.declared.counts.Counts.{Counts}
+use Rattle.wire_model.specs.Counting.{counted}
 use Rattle.wire_model.specs.declared.wiring.Wiring.{Wiring}
 use Rattle.wire_model.specs.Passing.{wiring}
 
@@ -32,3 +36,10 @@ IsMovedOf (stops.PoolEmpty need) result = result ≡ Err (faults.PoolEmpty need)
 IsMovedOf stops.ReadFault result = result ≡ Err faults.ReadFault
 IsMovedOf stops.NoMemory result = result ≡ Err faults.NoMemory
 IsMovedOf stops.Lacking result = ⊥
+
+-- a record is gone, and its packet was counted
+abbrev pub CountsOne : Wiring → Counts → Counts → Place → Place → List ℕ → List ℕ → Type 0
+CountsOne o old new from to bytes left =
+    (gone : List ℕ) × ((r : Packet) × ((bytes ≡ gone ++ left)
+    × ((tail : List ℕ) → found_at from (gone ++ tail) ≡ one_more r (found_at to tail))
+    × (new ≡ counted o r old)))

@@ -6,7 +6,7 @@ ghost use Rattle.pcap_io.specs.declared.heads.Link.TheVariants.{Ethernet};
 ghost use Rattle.pcap_io.specs.Places.{IsReady};
 ghost use Rattle.pcap_io.specs.Readers.{place_of, source_of, SameLoan};
 ghost use Rattle.reading.specs.Reading.{GoesOn};
-ghost use Rattle.wire_records.specs.Moving.{IsMovedOf, Moves};
+ghost use Rattle.wire_records.specs.Moving.{CountsOne, IsMovedOf, Moves};
 
 use block_pool::Pool;
 use block_supply::{AllHome, RECORD_BLOCKS};
@@ -20,7 +20,7 @@ use segmenting::{Moved, SegFault};
 use std::alloc::{AllocError, Global};
 use std::collections::VecDeque;
 use std::marker::Model;
-use wire_model::Wiring;
+use wire_model::{Counts, Wiring};
 use wire_packet::wire_packet;
 
 /// A pool of blocks for one record at a time, and memory that each uses again. Dropping it frees the blocks.
@@ -119,7 +119,7 @@ impl WireRun {
     }
 
     /// Writes the next record as it goes over the wire: it is read into blocks, its sums are filled in, and what stands
-    /// on the wire of it is written, each packet behind its record header. The sink isn't flushed.
+    /// on the wire of it is written, each packet behind its record header, and counted. The sink isn't flushed.
     ///
     /// A record is judged in this order: its header, whether it needs more blocks than there are, its body. A read fault
     /// or a write fault only where the count of the source or the sink rose. All blocks are home again, whatever the
@@ -129,6 +129,7 @@ impl WireRun {
         reader: &mut CaptureReader<'_, S>,
         sink: &mut K,
         wiring: Wiring,
+        counts: &mut Counts,
     ) -> Result<Moved, SegFault>
         requires ready { IsReady (place_of reader.old) }
         requires link { (place_of reader.old).link ≡ Ethernet }
@@ -139,6 +140,10 @@ impl WireRun {
             (Moves self.old.blocks wiring (place_of reader.old) (place_of reader.new) (K.held sink.old)
             (K.held sink.new) result) }
         ensures next { result ≡ Ok Moved.One → GoesOn (place_of reader.old) (place_of reader.new) }
+        ensures counted { result ≡ Ok Moved.One → Told (S.left (source_of reader.old))
+            (S.left (source_of reader.new))
+            (CountsOne wiring counts.old counts.new (place_of reader.old) (place_of reader.new)) }
+        ensures uncounted { result ≡ Ok Moved.End → counts.new ≡ counts.old }
         ensures home { self.new.home ≡ self.new.blocks }
         ensures same { self.new.blocks ≡ self.old.blocks }
         ensures later { S.faults (source_of reader.old) ≤ S.faults (source_of reader.new) }
@@ -167,7 +172,15 @@ impl WireRun {
             Err(stop) => return stopped(stop),
         }
         let packet = only_packet(&mut self.packets);
-        let wrote = wire_packet(sink, &file, wiring, packet, &mut self.pool, &mut self.out);
+        let wrote = wire_packet(
+            sink,
+            &file,
+            wiring,
+            packet,
+            &mut self.pool,
+            &mut self.out,
+            counts,
+        );
         self.pool.refill(&mut self.spares);
         match wrote {
             Ok(()) => Ok(Moved::One),

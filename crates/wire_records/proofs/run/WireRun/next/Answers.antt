@@ -14,7 +14,7 @@ use Rattle.segmenting.specs.declared.segment.SegFault.TheVariants.{WriteFault}
 use Rattle.wire_model.specs.Passing.{wire_bytes}
 use Rattle.wire_records.specs.RunState.{RunState}
 use Rattle.wire_records.specs.Moving.{Moves}
-use Rattle.wire_records.proofs.Steps.{moved_given, not_moved_given, unmoved_given}
+use Rattle.wire_records.proofs.Steps.{counts_one, moved_given, not_moved_given, unmoved_given}
 use Rattle.reading.proofs.Laying.{laid_alone}
 use Rattle.wire_records.proofs.run.WireRun.next.Goals.{in-Ok-wrote, in-Err-wrote}
 use Rattle.wire_records.proofs.run.WireRun.next.Goals as goal
@@ -67,3 +67,11 @@ returns-clause-given g c =
           (subst (λ (f : FileHead). AppendsPrefix h k (wire_bytes o f.order (packet_of p))) c.file-file.ensures.file
           (subst (λ x. OnErr x (AppendsPrefix h k (wire_bytes o c.file-file.result.order (packet_of p)))) b.in-Err-wrote.is w.ensures.writes.err))))
     ]
+
+pub returns-clause-counted : goal.returns-clause-counted
+returns-clause-counted g c = λ one.
+    let r = c.read_record-read in
+    let p = c.only_packet-packet.result in
+    let is = only c.self.inside.packets r.new.packets p c.self.invariant.5 c.only_packet-packet.ensures.only in
+    counts_one _ _ c.self.inside.pool.made 0 c.args.wiring c.args.counts.now c.wire_packet-wrote.new.counts c.args.reader.now.place r.new.reader.place r.new.front p r.ensures.front
+    c.wire_packet-wrote.ensures.counts (c.in-Ok.ensures.given p is)
