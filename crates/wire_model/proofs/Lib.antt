@@ -2,3 +2,5 @@
 pub mod Passing
 -- more bytes make nothing less
 mod Growing
+-- sums that are right
+mod Rights
