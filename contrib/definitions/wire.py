@@ -27,7 +27,8 @@ def options_of(words):
     while words:
         name, has_value, text = words.pop(0).partition("=")
         name = name.removeprefix("--") if name.startswith("--") else None
-        if name in found or name not in ("mss", "blocks", "sums", "summary") or (name == "summary") == bool(has_value) or not (has_value or words or name == "summary"):
+        has_none = not has_value and (name == "summary" or not words)
+        if name in found or name not in ("mss", "blocks", "sums", "summary") or has_none != (name == "summary"):
             raise ValueError("options are --mss, --sums and --blocks, each with a value, and --summary, each once")
         if name == "summary":
             found[name] = True

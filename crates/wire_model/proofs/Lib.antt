@@ -4,3 +4,5 @@ pub mod Passing
 mod Growing
 -- sums that are right
 mod Rights
+-- the segments of a packet that is cut
+mod Cutting

@@ -1,13 +1,16 @@
 -- What holds of what stands on the wire.
-use Rattle.std.specs.Prelude.{◌≡◌, ℕ, Bool, true, false, Some, [], ◌∷◌, List, length}
+use Rattle.std.specs.Prelude.{◌≡◌, ℕ, Bool, true, false, Some, [], ◌∷◌, List, length, drop}
 use Rattle.frame_layout.specs.Shape.{Layout, shape_of}
 use Rattle.frame_layout.specs.Headers.{AtHeaders}
 use Rattle.frame_layout.specs.Candidate.{IsLengthRight, AreSumsRight}
 use Rattle.pcap_io.specs.Capture.{Packet}
 use Rattle.offload_model.specs.Laws.{InBytes}
+use Rattle.offload_model.specs.Captured.{IsCaptured}
+use Rattle.offload_model.specs.Mergeable.{IsMergeable, payloads_of}
+use Rattle.offload_model.specs.Merged.{layout_of}
 use Rattle.wire_model.specs.declared.wiring.Wiring.{Wiring}
 use Rattle.wire_model.specs.Filling.{filled_of, is_whole, packet_fates, wrong_in}
-use Rattle.wire_model.specs.Wire.{is_cut, wire_of}
+use Rattle.wire_model.specs.Wire.{cut_of, is_cut, wire_of}
 
 -- a frame of this layout has right lengths and sums, and this length
 pub record IsRight (layout : Layout) (size : ℕ) (f : List ℕ) : Type 0 where
@@ -47,3 +50,17 @@ OthersPass =
     → ((layout : Layout) → shape_of p.frame ≡ Some layout → is_whole layout p ≡ false)
     → is_cut o.mss p ≡ false
     → wire_of o p ≡ p ∷ []
+
+-- ---- a packet that is cut
+
+-- its segments may be merged: so each has right lengths and sums
+abbrev pub CutIsMergeable : Type 0
+CutIsMergeable = (mss : ℕ) (p : Packet) → IsCaptured p → is_cut mss p ≡ true → IsMergeable (cut_of mss p)
+
+-- and they carry its payload, each byte once and in order
+abbrev pub PayloadStays : Type 0
+PayloadStays =
+    (mss : ℕ) (p : Packet)
+    → IsCaptured p
+    → is_cut mss p ≡ true
+    → payloads_of (layout_of p.frame) (cut_of mss p) ≡ drop (layout_of p.frame).payload_at p.frame

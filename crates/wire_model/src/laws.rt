@@ -1,5 +1,5 @@
 //! Laws of what stands on the wire, and of what is written of a capture, record by record.
-ghost use Rattle.wire_model.specs.Laws.{AllAreFilled, FilledIsRight, OthersPass, RightStays};
+ghost use Rattle.wire_model.specs.Laws.{AllAreFilled, CutIsMergeable, FilledIsRight, OthersPass, PayloadStays, RightStays};
 ghost use Rattle.wire_model.specs.Passing.{WiresGrow, WiringGoesByRecord};
 
 /// What is written goes record by record, in the order in which each is judged: the blocks, and whether it is whole.
@@ -31,4 +31,14 @@ pub fn right_stays()
 /// A packet that has no shape, was cut short or has a wrong length passes byte for byte.
 pub fn others_pass()
     ensures law { OthersPass }
+{}
+
+/// The segments of a packet that is cut may be merged: so each has right lengths and sums, and merging finds one run.
+pub fn cut_is_mergeable()
+    ensures law { CutIsMergeable }
+{}
+
+/// The segments of a packet that is cut carry its payload, each byte once and in order.
+pub fn payload_stays()
+    ensures law { PayloadStays }
 {}

@@ -77,7 +77,10 @@ fn example_of_wire_fill(rt: HostRuntime) -> Result<(), Fail> {
     let mut payload = Partial::new();
     payload.add(b"abcdef");
     let fates = fill_sums(&mut headers, layout.headers(), payload, false);
-    assert_eq!(rt; (fates.filled, fates.wrong, headers.as_slice()), (1, 0, &MERGED[..54]));
+    assert_eq!(rt;
+        (fates.filled, fates.wrong, headers.as_slice()),
+        (1, 0, &MERGED[..54])
+    );
     Ok(())
 }
 

@@ -47,14 +47,3 @@ pub of_err : (a : App) (words : List Text) (e : Error) → a ≡ wire_app → Ha
 of_err a words e is has other =
     subst (λ (x : App). options_by x words ≡ None) is
     (asks_nothing a words (λ none. ⊎_elim other (λ (among : IsAmong (kind_of e) (fault_of a words)). subst (λ (k : Kinds). IsAmong (kind_of e) k) none among) has))
-
--- ---- what `parse_words` says
-
-pub ok_options : (words : List Text) (r : Result WireOptions WordsFault) → Reads r (wire_options_of words) → IfOk r (λ o. wire_options_of words ≡ Some o)
-ok_options words (Ok o) h = h
-ok_options words (Err e) h = tt
-
-pub usage_none : (words : List Text) (r : Result WireOptions WordsFault) → Reads r (wire_options_of words) → r ≡ Err Usage → wire_options_of words ≡ None
-usage_none words (Ok o) h e = absurd cc
-usage_none words (Err Usage) h e = h
-usage_none words (Err NoMemory) h e = absurd cc
