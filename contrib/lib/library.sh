@@ -1,10 +1,13 @@
 # The library for C, as building.sh has it found or made. Sourced by a script of bash that has set `root`, `teller` and `refused`; behind
-# `find_product` the file is `product`.
+# `find_product` the file is `product`. Where `library` is `burst` it is that of bursts alone.
 # shellcheck shell=bash disable=SC2034,SC2154
 
-crate=offload_c
-proved=$root/crates/offload_c/out/liboffload_c.a
-product=$root/crates/offload_c/out/liboffload.a
+case ${library-} in
+  burst) crate=burst_c product=liboffload_burst.a ;;
+  *) crate=offload_c product=liboffload.a ;;
+esac
+proved=$root/crates/$crate/out/lib$crate.a
+product=$root/crates/$crate/out/$product
 # shellcheck source=contrib/lib/building.sh
 . "$root/contrib/lib/building.sh" || exit "$refused"
 
@@ -21,5 +24,5 @@ is_made() {
 join_archives() (
   runtime=$(dirname "$(rt doc)")/c/liblibc_c.a room=$(mktemp -d) || return 1
   trap 'rm -rf "$room"' EXIT
-  cp -- "$proved" "$room/liboffload.a" && cd -- "$room" && ar x "$runtime" && ar r liboffload.a ./*.o && mv -- liboffload.a "$product"
+  cp -- "$proved" "$room/made.a" && cd -- "$room" && ar x "$runtime" && ar r made.a ./*.o && mv -- made.a "$product"
 )

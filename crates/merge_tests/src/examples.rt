@@ -4,6 +4,7 @@ use crate::merging::{emptied, packet, plain, reserve, slot, spent};
 use crate::segmenting::cutting::{buffer, merged};
 use crate::tapping::packets::task_over;
 use frags::Outcomes;
+use frame_bursts::{BurstRun, merge_burst};
 use frame_layout::{candidate, shape};
 use frame_runs::{Engine, Lent};
 use gro::Packets;
@@ -19,6 +20,17 @@ use segment_rule::{is_merged, segmentation_of};
 use std::test::Fail;
 use taps::TapResult;
 use worked_captures::{FIRST, MERGED, SECOND};
+
+const NO_RUN: BurstRun = BurstRun {
+    first: 0,
+    n: 0,
+    m: 0,
+    length: 0,
+    headers_length: 0,
+    kind: 0,
+    modes: 0,
+    headers: [0; 200],
+};
 
 #[test]
 fn example_of_merge_rule(rt: HostRuntime) {
@@ -78,6 +90,31 @@ fn example_of_frame_runs(rt: HostRuntime) {
     engine.merge(&frames, 4096);
     let runs = engine.runs.len(); // 1: the second frame follows the first one in its flow
     assert_eq!(rt; runs, 1);
+}
+
+#[test]
+fn example_of_frame_bursts(rt: HostRuntime) {
+    let (first, second) = (FIRST.as_slice(), SECOND.as_slice());
+    let alloc = rt.alloc();
+    let mut next = [0; 2];
+    let mut runs = [NO_RUN; 2];
+    let frames = [
+        Lent {
+            bytes: first,
+            original: 58,
+            number: 0,
+        },
+        Lent {
+            bytes: second,
+            original: 56,
+            number: 1,
+        },
+    ];
+    let merged = merge_burst(alloc, 64, &frames, &mut next, &mut runs); // Ok(1): they are one run
+    let run = runs[0];
+    let is_one = matches!(merged, Ok(1));
+    assert!(rt; is_one && (run.first, run.n, run.m, run.length, next[0]) == (0, 2, 4, 60, 1));
+    assert!(rt; run.headers[..run.headers_length as usize] == MERGED[..54]);
 }
 
 #[test]

@@ -1,0 +1,225 @@
+/* What a caller sees of offload_gro_burst; ends with 0 where all holds. Linked with --wrap=malloc and --wrap=realloc, so that each growth of
+ * memory can be refused in turn. burst_test PAIRS tries so many pairs of random frames. */
+#include "offload_burst.h"
+#include <pthread.h>
+#include <stdio.h>
+#include <stdlib.h>
+#include <string.h>
+
+#define FILL 0xa5
+#define HEADERS 54
+#define MOST_FRAME 262144u
+
+void *__real_malloc(size_t size);
+void *__real_realloc(void *old, size_t size);
+void *__wrap_malloc(size_t size);
+void *__wrap_realloc(void *old, size_t size);
+
+static int wrong;
+static long left = -1; /* growths until one is refused; none is where it is below 0 */
+
+static int is_refused(void) {
+    return left >= 0 && left-- == 0;
+}
+
+void *__wrap_malloc(size_t size) {
+    return is_refused() ? NULL : __real_malloc(size);
+}
+
+void *__wrap_realloc(void *old, size_t size) {
+    return is_refused() ? NULL : __real_realloc(old, size);
+}
+
+static void check(int holds, const char *what) {
+    if (holds) return;
+    printf("FAILED: %s\n", what);
+    wrong = 1;
+}
+
+static uint32_t summed(const uint8_t *from, size_t length, uint32_t sum) {
+    for (size_t i = 0; i < length; i++) sum += i % 2 ? from[i] : (uint32_t)from[i] << 8;
+    return sum;
+}
+
+static void put_sum(uint8_t *to, uint32_t sum) {
+    while (sum >> 16) sum = (sum & 0xffff) + (sum >> 16);
+    to[0] = (uint8_t)(~sum >> 8);
+    to[1] = (uint8_t)~sum;
+}
+
+/* A TCP segment over IPv4 with so many bytes of payload, its sums filled in; how long the frame is. */
+static size_t put_frame(uint8_t *frame, uint32_t sequence, uint16_t identification, size_t length) {
+    static const uint8_t headers[HEADERS] = {2, 0, 0, 0, 0, 2, 2, 0, 0, 0, 0, 1, 8, 0, 0x45, 0, 0, 0, 0, 0, 0x40, 0, 64, 6, 0, 0, 10, 0, 0, 1, 10, 0, 0, 2,
+                                             0x13, 0x88, 0x17, 0x70, 0, 0, 0, 0, 0, 0, 0, 1, 0x50, 0x10, 1, 0, 0, 0, 0, 0};
+    memcpy(frame, headers, HEADERS);
+    for (size_t i = 0; i < length; i++) frame[HEADERS + i] = (uint8_t)(sequence + i);
+    frame[16] = (uint8_t)((40 + length) >> 8), frame[17] = (uint8_t)(40 + length);
+    frame[18] = (uint8_t)(identification >> 8), frame[19] = (uint8_t)identification;
+    for (int i = 0; i < 4; i++) frame[38 + i] = (uint8_t)(sequence >> (24 - 8 * i));
+    put_sum(frame + 24, summed(frame + 14, 20, 0));
+    put_sum(frame + 50, summed(frame + 34, 20 + length, summed(frame + 26, 8, 6 + 20 + (uint32_t)length)));
+    return HEADERS + length;
+}
+
+/* A burst with its lists, filled so that a write shows. */
+struct burst {
+    uint32_t segs;
+    struct offload_frame *frames;
+    size_t count, next_count, runs_count;
+    uint32_t next[4];
+    struct offload_run runs[4];
+    size_t made;
+};
+
+static uint32_t call(struct burst *burst) {
+    memset(burst->next, FILL, sizeof burst->next);
+    memset(burst->runs, FILL, sizeof burst->runs);
+    burst->made = 99;
+    return offload_gro_burst(burst->segs, burst->frames, burst->count, burst->next, burst->next_count, burst->runs, burst->runs_count, &burst->made);
+}
+
+static int is_filled(const void *from, size_t length) {
+    const uint8_t *bytes = from;
+    for (size_t i = 0; i < length; i++)
+        if (bytes[i] != FILL) return 0;
+    return 1;
+}
+
+static void refused(struct burst burst, uint32_t status, const char *what) {
+    uint32_t told = call(&burst);
+    check(told == status && burst.made == 0 && is_filled(burst.next, sizeof burst.next) && is_filled(burst.runs, sizeof burst.runs), what);
+}
+
+static void numbers(struct offload_frame *two, const uint8_t *long_frame) {
+    struct offload_frame many[2] = {two[0], two[1]};
+    const struct burst lawful = {4096, many, 2, 4, 4, {0}, {{0}}, 0};
+    struct burst burst = lawful;
+    check(call(&burst) == OFFLOAD_BURST_OK && burst.made == 1, "two frames are one run");
+    check(burst.runs[0].first == 0 && burst.runs[0].n == 2 && burst.runs[0].m == 100 && burst.runs[0].length == 204, "and its numbers");
+    check(burst.runs[0].headers_length == HEADERS && burst.runs[0].kind == 1 && burst.runs[0].modes == 0 && burst.next[0] == 1, "and its headers");
+    check(is_filled(&burst.runs[1], 3 * sizeof *burst.runs) && is_filled(burst.next + 2, 8), "what is behind the frames isn't touched");
+    uint8_t whole[204];
+    put_frame(whole, 1000, 5, 150);
+    check(!memcmp(whole, burst.runs[0].headers, HEADERS), "the headers are those of the frame that one sender would have sent");
+    burst.segs = 1;
+    check(call(&burst) == OFFLOAD_BURST_OK && burst.made == 2 && burst.runs[1].n == 1 && burst.runs[1].headers_length == 0, "in runs of one");
+    burst.count = 0;
+    check(call(&burst) == OFFLOAD_BURST_OK && burst.made == 0 && is_filled(burst.runs, sizeof burst.runs), "no frames");
+    for (uint32_t segs = 0; segs <= 4097; segs += 4097) {
+        burst = lawful;
+        burst.segs = segs;
+        refused(burst, OFFLOAD_BURST_USAGE, "segs 0 and 4097");
+    }
+    burst = lawful;
+    burst.next_count = 1;
+    refused(burst, OFFLOAD_BURST_NO_ROOM, "no room in next");
+    burst = lawful;
+    burst.runs_count = 1;
+    refused(burst, OFFLOAD_BURST_NO_ROOM, "no room in runs");
+    many[1].number = 0;
+    refused(lawful, OFFLOAD_BURST_USAGE, "equal numbers");
+    many[1] = two[1];
+    many[1].original = 1u << 31;
+    refused(lawful, OFFLOAD_BURST_USAGE, "an original length of 2^31");
+    many[1] = (struct offload_frame){long_frame, MOST_FRAME + 1, MOST_FRAME + 1, 1};
+    refused(lawful, OFFLOAD_BURST_USAGE, "a frame of 262,145 bytes");
+    many[1].length = MOST_FRAME;
+    burst = lawful;
+    check(call(&burst) == OFFLOAD_BURST_OK && burst.made == 2, "a frame of 262,144 bytes");
+}
+
+static void many_frames(const struct offload_frame *one) {
+    struct offload_frame *frames = malloc(65536 * sizeof *frames);
+    struct offload_run *runs = malloc(65536 * sizeof *runs);
+    uint32_t *next = malloc(65536 * sizeof *next);
+    size_t made = 99;
+    if (!frames || !runs || !next) exit(OFFLOAD_BURST_NO_MEMORY);
+    for (uint32_t i = 0; i < 65536; i++) frames[i] = *one, frames[i].number = i;
+    check(offload_gro_burst(64, frames, 65536, next, 65536, runs, 65536, &made) == OFFLOAD_BURST_USAGE && made == 0, "65,536 frames");
+    check(offload_gro_burst(64, frames, 65535, next, 65536, runs, 65536, &made) == OFFLOAD_BURST_OK && made == 65535, "65,535 frames");
+    free(frames), free(runs), free(next);
+}
+
+static void without_memory(struct offload_frame *two) {
+    struct burst burst = {64, two, 2, 4, 4, {0}, {{0}}, 0};
+    int refusals = 0;
+    for (uint32_t told = OFFLOAD_BURST_NO_MEMORY; told != OFFLOAD_BURST_OK && refusals < 100; refusals++) {
+        left = refusals;
+        told = call(&burst);
+        left = -1;
+        if (told == OFFLOAD_BURST_OK) break;
+        check(told == OFFLOAD_BURST_NO_MEMORY && burst.made == 0 && is_filled(burst.next, sizeof burst.next) && is_filled(burst.runs, sizeof burst.runs),
+              "a refused growth of memory");
+    }
+    check(refusals > 0 && refusals < 100, "growths of memory were refused");
+    printf("%d growths refused in turn\n", refusals);
+}
+
+/* A frame in a random one's bytes beside a right one, of a random length: what is merged is a run of both. */
+static void random_pairs(struct offload_frame *two, long pairs) {
+    uint8_t bytes[154] = {0};
+    struct offload_frame both[2] = {two[0], {bytes, 0, 0, 1}};
+    struct burst burst = {64, both, 2, 4, 4, {0}, {{0}}, 0};
+    long merged = 0;
+    srand(1);
+    for (long i = 0; i < pairs; i++) {
+        memcpy(bytes, two[1].bytes, two[1].length);
+        for (int j = rand() % 4; j > 0; j--) bytes[rand() % 60] = (uint8_t)rand();
+        both[1].length = rand() % 3 ? two[1].length : (size_t)(rand() % 155);
+        both[1].original = rand() % 8 ? (uint32_t)both[1].length : 154;
+        if (call(&burst) != OFFLOAD_BURST_OK || burst.made > 2 || burst.made < 1) check(0, "a random frame");
+        if (burst.made == 1 && (burst.runs[0].n != 2 || burst.next[0] != 1)) check(0, "a random frame that is merged");
+        merged += burst.made == 1;
+    }
+    printf("%ld random pairs, of which %ld are merged\n", pairs, merged);
+}
+
+#define FRAMES 200
+#define TIMES 300
+
+static uint8_t bytes_of[FRAMES][300];
+static struct offload_frame sent[FRAMES];
+static struct offload_run wanted[FRAMES];
+static size_t wanted_count;
+
+static void *worker(void *failed) {
+    struct offload_run *runs = calloc(FRAMES, sizeof *runs);
+    uint32_t next[FRAMES];
+    size_t made;
+    for (int i = 0; i < TIMES; i++) {
+        uint32_t told = offload_gro_burst(64, sent, FRAMES, next, FRAMES, runs, FRAMES, &made);
+        if (told != OFFLOAD_BURST_OK || made != wanted_count || memcmp(runs, wanted, sizeof wanted)) *(int *)failed = 1;
+    }
+    free(runs);
+    return NULL;
+}
+
+static void threads(void) {
+    pthread_t thread[4];
+    int failed[4] = {0};
+    uint32_t next[FRAMES];
+    for (uint32_t i = 0; i < FRAMES; i++) {
+        size_t length = put_frame(bytes_of[i], 1000 + 200 * (i / 2), (uint16_t)(i / 2), 200);
+        if (i % 2) bytes_of[i][0] = 4, bytes_of[i][5] = 9;
+        sent[i] = (struct offload_frame){bytes_of[i], length, (uint32_t)length, i};
+    }
+    check(offload_gro_burst(64, sent, FRAMES, next, FRAMES, wanted, FRAMES, &wanted_count) == OFFLOAD_BURST_OK, "a burst of 200");
+    for (int i = 0; i < 4; i++)
+        if (pthread_create(&thread[i], NULL, worker, &failed[i])) exit(1);
+    for (int i = 0; i < 4; i++) {
+        pthread_join(thread[i], NULL);
+        check(!failed[i], "four threads make what one makes");
+    }
+}
+
+int main(int count_of_words, char **words) {
+    static uint8_t first[154], second[154], long_frame[MOST_FRAME + 1];
+    size_t length = put_frame(first, 1000, 5, 100), other = put_frame(second, 1100, 6, 50);
+    struct offload_frame two[2] = {{first, length, (uint32_t)length, 0}, {second, other, (uint32_t)other, 1}};
+    numbers(two, long_frame);
+    many_frames(&two[0]);
+    without_memory(two);
+    random_pairs(two, count_of_words > 1 ? atol(words[1]) : 300000);
+    threads();
+    return wrong;
+}

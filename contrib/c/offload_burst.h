@@ -1,0 +1,69 @@
+/* offload_burst.h: a burst of frames, merged where they lie: no frame is moved, and no payload copied. Linked from liboffload_burst.a, which
+ * has this call alone.
+ *
+ * It is proved for callers that keep the rules below, and docs/PROVED.md says what of it. Nothing checks a C caller: where a rule is broken
+ * the behaviour is undefined. Numbers have no rules: each is tested, and a wrong one is answered OFFLOAD_BURST_USAGE.
+ *
+ *  - A pointer and the count after it name that many bytes or structs, which can be read (const) or written. The pointer isn't NULL, also at
+ *    count 0, nor is `bytes` of a frame; nor is `count`.
+ *  - What is written (`next`, `runs`, `*count`) overlaps nothing else that is passed.
+ *  - While a call runs nobody else writes what was passed to it, or reads what it writes.
+ *  - malloc, realloc and free are of one allocator, and malloc aligns to 16.
+ *  - No call from a signal handler, nor in the child of a fork of a process that has threads.
+ *
+ * A call prints nothing, starts no thread, takes no lock, and keeps no pointer after it has returned; what it took of malloc it has given
+ * back. Several threads may call at once where what is written by each is its own.
+ */
+#ifndef OFFLOAD_BURST_H
+#define OFFLOAD_BURST_H
+
+#include <stddef.h>
+#include <stdint.h>
+
+#ifdef __cplusplus
+extern "C" {
+#endif
+
+/* What a call answers, and no other number. */
+enum offload_burst_status {
+    OFFLOAD_BURST_OK = 0,        /* the first *count of `runs` are what the frames come to */
+    OFFLOAD_BURST_USAGE = 2,     /* a number or a frame isn't as it has to be; nothing was written, *count is 0 */
+    OFFLOAD_BURST_NO_MEMORY = 7, /* malloc refused; nothing was written, *count is 0 */
+    OFFLOAD_BURST_NO_ROOM = 9    /* `next` or `runs` has fewer entries than there are frames; nothing was written, *count is 0 */
+};
+
+/* An Ethernet frame in one piece, of at most 262,144 bytes. Its first two members are those of a struct iovec. */
+struct offload_frame {
+    const uint8_t *bytes;
+    size_t length;
+    uint32_t original; /* as `length`, but more of a frame that was cut short, which is never merged; below 2^31 */
+    uint32_t number;   /* above that of the frame before; 0, 1, .. where nothing else numbers them */
+};
+
+/* What frames of one flow come to. The merged frame is the first `headers_length` bytes of `headers`, and behind them what stands behind as
+ * many bytes of each of its frames: of `first`, of next[first], .., `n` of them. Of a frame that is alone (`n` 1) `headers_length` is 0, so
+ * that it is the frame itself. As iovecs: {headers, headers_length}, and for each frame {bytes + headers_length, length - headers_length}. */
+struct offload_run {
+    uint32_t first;          /* the index of its first frame */
+    uint32_t n;              /* how many frames */
+    uint32_t m;              /* bytes of payload of each but the last, which has 1 to m; 0 where n is 1 */
+    uint32_t length;         /* bytes of the merged frame */
+    uint32_t headers_length; /* 42 to 200; 0 where n is 1 */
+    uint8_t kind;            /* 1 where frames were merged, 0 of one alone */
+    uint8_t modes;           /* a bit for each IP header, the lowest for the first: set where the identification of an IPv4 header stays */
+    uint8_t headers[200];    /* what is behind the first headers_length bytes is left as it was, or of any value */
+};
+
+/* Merges at most 65,535 frames where they lie, into runs of at most `segs` (1 to 4096). `next` and `runs` have room for as many entries as
+ * there are frames.
+ *
+ * On OFFLOAD_BURST_OK the runs are the maximal mergeable runs of each flow, in the order of their first frames; each frame is in one run,
+ * once; and cutting a merged frame into its n segments gives its frames back, byte for byte and in order. */
+uint32_t offload_gro_burst(uint32_t segs, const struct offload_frame *frames, size_t frames_count, uint32_t *next, size_t next_count,
+                           struct offload_run *runs, size_t runs_count, size_t *count);
+
+#ifdef __cplusplus
+}
+#endif
+
+#endif

@@ -1,0 +1,74 @@
+-- Frames that a capture may have, whose numbers rise.
+use Rattle.std.proofs.Common.{zero, suc, ◌≡◌, ℕ, ◌+◌, ◌-◌, ◌<◌, ◌≤◌, List, [], ◌∷◌, length, map, get_or}
+use Rattle.std.proofs.Common.{sym, ap, subst, arith}
+use Rattle.std.specs.List.{AllByRecursion}
+use Rattle.maximal_runs.specs.Cut.{AllNeighbours}
+use Rattle.pcap_io.specs.Capture.{Packet}
+use Rattle.offload_model.specs.Captured.{IsCaptured}
+use Rattle.frame_runs.specs.declared.lent.Lent.{Lent}
+use Rattle.frame_runs.specs.Lent.{packet_of, IsShort}
+use Rattle.frame_bursts.specs.Burst.{AreFrames}
+
+abbrev IsOne : Lent → Type 0
+IsOne f = IsCaptured (packet_of f)
+
+-- one is above the one before it
+abbrev Rise : List Lent → Type 0
+Rise fs = (j k : ℕ) (d : Lent) → j ≡ k + 1 → j < length fs → (get_or fs k d).number < (get_or fs j d).number
+
+rise : (fs : List Lent) → Rise fs → AllNeighbours (λ (p q : Packet). p.number < q.number) (map packet_of fs)
+rise [] f = tt
+rise (x ∷ []) f = tt
+rise (x ∷ y ∷ fs) f = (
+  f 1 0 x (omega arith) (omega arith),
+  rise (y ∷ fs) (λ j k d e h. f (suc j) (suc k) d (omega (arith, e)) (omega (arith, h))),
+)
+
+each_one : (fs : List Lent) → ((k : ℕ) (d : Lent) → k < length fs → IsOne (get_or fs k d))
+    → AllByRecursion IsCaptured (map packet_of fs)
+each_one [] f = tt
+each_one (x ∷ fs) f = (f 0 x (omega arith), each_one fs (λ k d h. f (suc k) d (omega (arith, h))))
+
+pub are_frames : (fs : List Lent) (n : ℕ) → length fs ≤ n → ((k : ℕ) (d : Lent) → k < n → IsOne (get_or fs k d))
+    → ((j k : ℕ) (d : Lent) → j ≡ k + 1 → j < n → (get_or fs k d).number < (get_or fs j d).number) → AreFrames fs
+are_frames fs n few each rises = record {
+  each = each_one fs (λ k d h. each k d (omega (arith, h, few)));
+  rising = rise fs (λ j k d e h. rises j k d e (omega (arith, h, few)));
+}
+
+-- ---- and frames that aren't so
+
+one_at : (fs : List Lent) (k : ℕ) (d : Lent) → AllByRecursion IsCaptured (map packet_of fs) → k < length fs
+    → IsOne (get_or fs k d)
+one_at [] k d a h = absurd (omega (arith, h))
+one_at (x ∷ fs) zero d a h = a.0
+one_at (x ∷ fs) (suc k) d a h = one_at fs k d a.1 (omega (arith, h))
+
+pub not_captured : (fs : List Lent) (i : ℕ) (x : Lent) → i < length fs → x ≡ get_or fs i x → (IsOne x → ⊥)
+    → AreFrames fs → ⊥
+not_captured fs i x h is not a = not (subst IsOne (sym is) (one_at fs i x a.each h))
+
+risen : (fs : List Lent) → AllNeighbours (λ (p q : Packet). p.number < q.number) (map packet_of fs) → Rise fs
+risen [] r j k d e h = absurd (omega (arith, h))
+risen (x ∷ []) r j k d e h = absurd (omega (arith, e, h))
+risen (x ∷ y ∷ fs) r zero k d e h = absurd (omega (arith, e))
+risen (x ∷ y ∷ fs) r (suc j) zero d e h =
+    let first : 0 ≡ j = omega (arith, e) in
+    subst (λ (z : ℕ). x.number < (get_or (y ∷ fs) z d).number) first r.0
+risen (x ∷ y ∷ fs) r (suc j) (suc k) d e h = risen (y ∷ fs) r.1 j k d (omega (arith, e)) (omega (arith, h))
+
+pub not_above : (fs : List Lent) (i : ℕ) (x y : Lent) → 0 < i → i < length fs → x ≡ get_or fs i y
+    → y ≡ get_or fs (i - 1) y → x.number ≤ y.number → AreFrames fs → ⊥
+not_above fs i x y some h is before le a =
+    let r : (get_or fs (i - 1) y).number < (get_or fs i y).number
+    = risen fs a.rising i (i - 1) y (omega (arith, some)) h in
+    omega (arith, r, le, ap (λ (z : Lent). z.number) is, ap (λ (z : Lent). z.number) before)
+
+-- ---- what the engine asks of them
+
+pub all_short : (fs : List Lent) → AreFrames fs → AllByRecursion IsShort fs
+all_short fs a = short fs a.each
+  where
+    short : (gs : List Lent) → AllByRecursion IsCaptured (map packet_of gs) → AllByRecursion IsShort gs
+    short [] c = tt
+    short (x ∷ gs) c = (c.0.short, short gs c.1)

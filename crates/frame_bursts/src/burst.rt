@@ -1,0 +1,59 @@
+//! A burst of frames, merged where they lie.
+ghost use Rattle.std.specs.Prelude.{◌≡◌, ◌≤◌, ℕ, IfOk, IfErr, length, map, take};
+ghost use Rattle.std.specs.List.{AllByRecursion};
+ghost use Rattle.frame_runs.specs.Lent.{packet_of};
+ghost use Rattle.frame_bursts.specs.Burst.{AreLawful, HasRoom, Merges, ComesBack, Refuses, frames_of};
+
+use crate::lawful::are_lawful;
+use crate::told::{BurstRun, put_runs};
+use frame_runs::{Engine, Lent};
+use offload_model::runs_come_back;
+use std::alloc::Global;
+
+/// Why a burst isn't merged.
+#[derive(Clone, Copy)]
+pub enum Refused {
+    /// A number or a frame isn't as it has to be.
+    Usage,
+    /// There was no memory.
+    NoMemory,
+    /// `next` or `runs` is shorter than the list of frames.
+    NoRoom,
+}
+
+/// Merges frames where they lie, into runs of at most `segs` (1 to 4096), and answers how many runs there are.
+///
+/// `next` and `runs` have room for as many entries as there are frames, at most 65,535. Each frame has at most 262,144
+/// bytes, an original length below 2^31, and a number above that of the frame before it.
+pub fn merge_burst(
+    alloc: Global,
+    segs: u32,
+    frames: &[Lent<'_>],
+    next: &mut [u32],
+    runs: &mut [BurstRun],
+) -> Result<usize, Refused>
+    ensures merges { IfOk result (λ count. Merges segs (map packet_of frames.now) next.new (take count runs.new)) }
+    ensures back { IfOk result (λ count. AllByRecursion
+        (λ r. ComesBack (frames_of (map packet_of frames.now) next.new r)) (take count runs.new)) }
+    ensures lawful { IfOk result (λ count. AreLawful segs frames.now
+        × HasRoom (length frames.now) (length next.old) (length runs.old)) }
+    ensures refused { IfErr result (Refuses segs frames.now (length next.old) (length runs.old)) }
+    ensures untouched { IfErr result (λ _. (next.new ≡ next.old) × (runs.new ≡ runs.old)) }
+    ensures sizes { (length next.new ≡ length next.old) × (length runs.new ≡ length runs.old) }
+{
+    runs_come_back();
+    if !are_lawful(segs, frames) {
+        return Err(Refused::Usage);
+    }
+    let n = frames.len();
+    if next.len() < n || runs.len() < n {
+        return Err(Refused::NoRoom);
+    }
+    let Ok(mut engine) = Engine::make(alloc, n as u32) else {
+        return Err(Refused::NoMemory);
+    };
+    engine.merge(frames, segs);
+    next[..n].copy_from_slice(&engine.next[..n]);
+    put_runs(&engine, frames, runs);
+    Ok(engine.runs.len())
+}

@@ -1,0 +1,60 @@
+//! A burst of frames, merged where they lie: no frame moves, and no payload is copied.
+//!
+//! [`merge_burst`] takes frames in slices that somebody lends ([`Lent`] of `frame_runs`), and says of each run of them
+//! what the merged frame is: its headers, written out, and behind them the payloads of the run's frames, as they lie.
+//! `next` leads from each frame of a run to the one behind it.
+//!
+//! ```text
+//!   frames   0   1   2   3   4   5        runs     first 0, n 3:   0 -> 2 -> 5
+//!   next     2   4   5   .   .   .                 first 1, n 2:   1 -> 4
+//!                                                  first 3, n 1:   3
+//! ```
+//!
+//! Proved, of [`merge_burst`], where it answers how many runs there are:
+//!
+//! - `merges`: the runs are the maximal mergeable runs of each flow, in the order of their first frames, as the model
+//!   of merging has them; what is said of each run is so; and each frame is in one run, once.
+//! - `back`: the segments of each run's merged frame are its frames, byte for byte and in order.
+//! - `refused`, `lawful`: which answer comes when. A number, a length or an order that isn't lawful is answered
+//!   [`Refused::Usage`], and exactly that is; too little room [`Refused::NoRoom`], and exactly that.
+//! - `untouched`: where it refuses, nothing was written. `sizes`: the caller's lists stay as long as they are.
+//!
+//! Not said: when there is no memory.
+//!
+//! ```
+//! let frames = [
+//!     Lent {
+//!         bytes: first,
+//!         original: 58,
+//!         number: 0,
+//!     },
+//!     Lent {
+//!         bytes: second,
+//!         original: 56,
+//!         number: 1,
+//!     },
+//! ];
+//! let merged = merge_burst(alloc, 64, &frames, &mut next, &mut runs); // Ok(1): they are one run
+//! ```
+//!
+//! Its parts: `lawful` (what a caller may pass), `told` (what is said of a run), `burst` (the call).
+//! `specs/Burst.antt` says what a lawful burst is, what is said of a run, and what merging a burst comes to.
+//!
+//! Tests: `merge_tests`, module `examples`; `contrib/c/burst_check`.
+//!
+//! Why so:
+//!
+//! - **Frames are lent, and nothing is kept**: the call makes an engine of its own and drops it, so that two bursts
+//!   have nothing in common, and threads need no lock.
+//! - **A run has its headers and indices, and no slices**: what a caller writes out are the headers and then parts of
+//!   its own frames, for which it has the pointers.
+//! - **What a burst has to be is what the model asks of a capture** (`AreCaptured`): so that a run's segments come back
+//!   needs no premise, and all of it is tested.
+#![tactic(auto)]
+
+mod burst;
+mod lawful;
+mod told;
+
+pub use burst::{Refused, merge_burst};
+pub use told::BurstRun;

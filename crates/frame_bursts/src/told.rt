@@ -1,0 +1,89 @@
+//! What a run of a burst comes to, as a caller reads it.
+ghost use Rattle.std.specs.Prelude.{◌≡◌, ◌+◌, ◌<◌, ◌≤◌, ◌∷◌, ◌++◌, ℕ, List, length, map, take, slice_index_or};
+ghost use Rattle.std.specs.List.{AllByRecursion};
+ghost use Rattle.pcap_io.specs.Capture.{Packet};
+ghost use Rattle.offload_model.specs.Merged.{merged_of};
+ghost use Rattle.frame_runs.specs.declared.run.Run.{Run as RunOf};
+ghost use Rattle.frame_runs.specs.Engine.{Knows, KnowsSome, AreRuns};
+ghost use Rattle.frame_runs.specs.MergedRun.{payloads_behind};
+ghost use Rattle.frame_runs.specs.Lent.{packet_of, IsShort};
+ghost use Rattle.frame_bursts.specs.Burst.{Says, Told};
+
+use crate::lawful::frame_at;
+use frame_runs::{Engine, Lent, Run};
+
+/// What a run of frames comes to. Its frame is the first `headers_length` bytes of `headers`, and behind them what
+/// stands behind as many bytes of each of its frames, one after the other; of a frame that is alone `headers_length` is
+/// 0.
+#[repr(C)]
+#[derive(Clone, Copy)]
+pub struct BurstRun {
+    /// The index of its first frame.
+    pub first: u32,
+    /// How many frames it has.
+    pub n: u32,
+    /// Bytes of payload of each frame but the last, which has 1 to m; 0 of one frame.
+    pub m: u32,
+    /// Bytes of the merged frame.
+    pub length: u32,
+    /// Bytes of its headers, 42 to 200; 0 of one frame.
+    pub headers_length: u32,
+    /// 1 where frames were merged, 0 of one frame.
+    pub kind: u8,
+    /// A bit for each IP header, the lowest for the first: set where the identification of an IPv4 header stays.
+    pub modes: u8,
+    pub headers: [u8; 200],
+}
+
+/// Puts the headers of the merged frame into the first bytes, and answers how many these are: none of a frame that is
+/// alone.
+fn put_headers(headers: &mut [u8; 200], run: &Run, first: &Lent<'_>) -> u32
+    requires slot { IsShort first.now }
+    requires run { KnowsSome run.now (packet_of first.now) }
+    ensures frame { (rest : List Packet) → Knows run.now (packet_of first.now) rest
+        → take result headers.new ++ payloads_behind result (packet_of first.now ∷ rest)
+        ≡ (merged_of (packet_of first.now ∷ rest)).packet.frame }
+{
+    if run.more == 0 {
+        return 0;
+    }
+    let at = run.headers_len();
+    run.put_headers(first, &mut headers[..at]);
+    at as u32
+}
+
+/// Says what a run comes to, whose first frame is `first`.
+fn put_run(told: &mut BurstRun, run: &Run, first: &Lent<'_>)
+    requires slot { IsShort first.now }
+    requires run { KnowsSome run.now (packet_of first.now) }
+    ensures says { (rest : List Packet) → Knows run.now (packet_of first.now) rest
+        → Says told.new (packet_of first.now ∷ rest) }
+    ensures first { told.new.first ≡ run.now.first }
+    ensures more { told.new.n ≡ run.now.more + 1 }
+{
+    let head = run.head(0, first);
+    told.first = run.first;
+    told.n = head.n;
+    told.m = head.m;
+    told.kind = head.kind;
+    told.modes = head.modes;
+    told.length = run.frame_len(first);
+    told.headers_length = put_headers(&mut told.headers, run, first);
+}
+
+/// Says what all runs of an engine come to.
+pub(crate) fn put_runs(engine: &Engine, frames: &[Lent<'_>], runs: &mut [BurstRun])
+    requires are { AreRuns (map packet_of frames.now) (length frames.now) engine.now }
+    requires short { AllByRecursion IsShort frames.now }
+    requires room { length engine.now.runs.items ≤ length runs.old }
+    ensures size { length runs.new ≡ length runs.old }
+    ensures told { (i : ℕ) (d : RunOf) (o : BurstRun) → i < length engine.now.runs.items
+        → Told (map packet_of frames.now) engine.now.next.items (slice_index_or engine.now.runs.items i d)
+        (slice_index_or runs.new i o) }
+{
+    for i in 0..engine.runs.len() {
+        let run = &engine.runs[i];
+        let first = frame_at(frames, run.first as usize);
+        put_run(&mut runs[i], run, &first);
+    }
+}
