@@ -49,6 +49,7 @@ pub struct AllHome {
 }
 
 impl AllHome {
+    /// None was wanted yet.
     pub fn new() -> AllHome {
         AllHome { refused: 0 }
     }

@@ -160,7 +160,7 @@ impl WireRun {
             &mut self.hold,
             &mut self.spares,
             reader,
-            &mut AllHome,
+            &mut AllHome::new(),
             &mut None,
             &mut front,
             0,
