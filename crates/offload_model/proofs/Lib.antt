@@ -2,7 +2,7 @@ pub mod Fronts
 mod Fields
 pub mod Grows
 mod Determined
-mod Identity
+pub mod Identity
 pub mod Edits
 pub mod Filled
 pub mod Made
