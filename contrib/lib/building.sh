@@ -5,6 +5,7 @@
 #   product  the file that is built
 #   teller   who speaks on the standard error
 #   refused  the status where it can't be built
+#   prover   the script whose --prove builds it here; offload where it isn't set
 # and that has two functions: `make_product` has rt prove and build the crate, below which all is proved, and writes nothing but what rt says;
 # `is_made` tells whether that made the product.
 # shellcheck shell=bash disable=SC2154
@@ -101,7 +102,7 @@ take_released() {
     say "the release isn't taken: $why"
     return 1
   fi
-  say "taken from release/: proved and built elsewhere from exactly these sources; './offload --prove' proves and builds it here, and compares"
+  say "taken from release/: proved and built elsewhere from exactly these sources; './${prover-offload} --prove' proves and builds it here, and compares"
 }
 
 # Has `product` name a file that was built from these sources, here or, where it was never built here, elsewhere; builds it where there is none.
