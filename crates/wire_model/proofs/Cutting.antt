@@ -4,7 +4,7 @@ use Rattle.std.specs.Prelude.{◌==◌, if◌then◌else◌, min}
 use Rattle.std.specs.List.{range_with_len}
 use Rattle.std.specs.Option.{unwrap_or}
 use Rattle.std.proofs.lemmas.Bool.{and_parts, cases_eq, eq-eqb}
-use Rattle.std.proofs.lemmas.List.{length-take, length-drop}
+use Rattle.std.proofs.lemmas.List.{get_or-drop, length-take, length-drop}
 use Rattle.std.proofs.Math.Seq.{take-add}
 use Rattle.std.proofs.lemmas.List.{take_all, drop-drop}
 use Rattle.ip_headers.specs.Ip4.{identification}
@@ -18,15 +18,16 @@ use Rattle.frame_layout.proofs.Lemmas.{IsAlikeAt, alike_at, alike_byte, headers_
 use Rattle.pcap_io.specs.Capture.{Packet}
 use Rattle.pcap_io.specs.Limits.{most_frame}
 use Rattle.offload_model.specs.Each.{Each, EachButLast}
-use Rattle.offload_model.specs.Frames.{AreFlagsSame, IsIdBehind, IsIdStep, IsSegment, segment_frame}
+use Rattle.offload_model.specs.Frames.{AreFlagsSame, AreIdsSame, AreSequencesSame, IsIdBehind, IsIdStep, IsMergedFrame, IsSegment, merged_frame, segment_frame}
 use Rattle.offload_model.specs.Laws.{InBytes}
 use Rattle.offload_model.specs.Mergeable.{AreIdsInStep, AreUdpSumsAlike, IsAckAlone, IsLengthInRange, IsMergeable, IsMergeableAs, IsSequenceBehind, payloads_of}
-use Rattle.offload_model.specs.Merged.{fixed_at, is_fixed, layout_of, modes_behind}
+use Rattle.offload_model.specs.Merged.{fixed_at, frame_at, frame_of_run, is_fixed, layout_of, modes_behind}
 use Rattle.offload_model.specs.Segments.{IsCuttable, IsLawfulSuper, merged_in, segments_by, with_frame}
 use Rattle.offload_model.proofs.Decides.{decides_super}
 use Rattle.offload_model.proofs.Fronts.{range_less}
-use Rattle.offload_model.proofs.Functions.{segment_is}
-use Rattle.wire_model.specs.Laws.{CutIsMergeable, PayloadStays}
+use Rattle.offload_model.proofs.Functions.{merged_is, segment_is}
+use Rattle.offload_model.proofs.Identity.{determined}
+use Rattle.wire_model.specs.Laws.{CutComesBack, CutIsMergeable, PayloadStays}
 use Rattle.wire_model.specs.Wire.{cut_head, cut_of, is_cut}
 
 -- ---- lists
@@ -49,6 +50,11 @@ ranged_at g h s (suc n) zero d lt = let e : s ≡ s + 0 = omega arith in ap (λ 
 ranged_at g h s (suc n) (suc i) d lt =
     let e : s + 1 + i ≡ s + suc i = omega arith in
     ranged_at g h (s + 1) n i d (omega arith) ∙ ap (λ k. g (h k)) e
+
+framed_at : (p : Packet) (h : ℕ → List ℕ) (s n i : ℕ) → i < n → frame_at (map (with_frame p) (map h (range_with_len s n))) i ≡ h (s + i)
+framed_at p h s zero i lt = absurd (omega arith)
+framed_at p h s (suc n) zero lt = let e : s ≡ s + 0 = omega arith in ap h e
+framed_at p h s (suc n) (suc i) lt = let e : s + 1 + i ≡ s + suc i = omega arith in framed_at p h (s + 1) n i (omega arith) ∙ ap h e
 
 mergeable_from : (xs : List Packet) (first : List ℕ) (l : Layout) → ((d : Packet) → (get_or xs 0 d).frame ≡ first) → IsMergeableAs l first xs → IsMergeable xs
 mergeable_from [] first l is m = absurd (omega (arith, m.several))
@@ -82,6 +88,24 @@ sequence_on f s first n k none _ at x y = tt
 id_rises : (b : Bool) (x y i : ℕ) → b ≡ false → IsIdStep b x y i → x ≡ (y + i) % 2 ^ 16
 id_rises true x y i e step = absurd (true≢false e)
 id_rises false x y i e step = step
+
+udp_on : (a s f : List ℕ) (l : Layer) (at : ℕ) → AreUdpSumsAlike a s l at → AreUdpSumsAlike s f l at → AreUdpSumsAlike a f l at
+udp_on a s f Udp at x y = (λ z. y.0 (x.0 z), λ z. x.1 (y.1 z))
+udp_on a s f _ at x y = tt
+
+flags_on : (a s f : List ℕ) (l : Layer) (at : ℕ) → AreFlagsSame a s l at → AreFlagsSame s f l at → AreFlagsSame a f l at
+flags_on a s f Tcp at x y = x ∙ y
+flags_on a s f _ at x y = tt
+
+sequence_from : (a s f : List ℕ) (k : ℕ) → k ≡ 0 → InBytes f → (l : Layer) (at : ℕ) → AreSequencesSame a s l at → IsSequenceBehind f s k l at → AreSequencesSame a f l at
+sequence_from a s f k none small Tcp at x y =
+    x ∙ y ∙ omega (arith, none, small (at + 4), small (at + 4 + 1), small (at + 4 + 2), small (at + 4 + 2 + 1))
+sequence_from a s f k none small _ at x y = tt
+
+ids_from : (fixed : ℕ → Bool) → ((at : ℕ) → fixed at ≡ false) → (a s f : List ℕ) → InBytes f → (l : Layer) (at : ℕ) → AreIdsSame a s l at → IsIdBehind fixed f s 0 l at → AreIdsSame a f l at
+ids_from fixed none a s f small Ip4 at x y =
+    x ∙ id_rises (fixed at) (identification s at) (identification f at) 0 (none at) y ∙ omega (arith, small (at + 4), small (at + 4 + 1))
+ids_from fixed none a s f small _ at x y = tt
 
 -- without modes no identification stays
 none_fixed : (hs : List Header) (at : ℕ) → is_fixed 0 hs at ≡ false
@@ -249,6 +273,43 @@ module _ (mss : ℕ) (p : Packet) (l : Layout) (small : InBytes p.frame) (c : Is
   pub mergeable : length f ≤ most_frame → IsMergeable ps
   mergeable short = mergeable_from ps (seg 0) l (λ d. ap (λ (q : Packet). q.frame) (at_ps 0 d first)) (merges short)
 
+  -- ---- the merged frame
+
+  abbrev merged : List ℕ
+  merged = merged_frame l (seg 0) (seg (n - 1)) (payloads_of l ps)
+
+  is_merged : IsMergedFrame l (seg 0) (seg (n - 1)) (payloads_of l ps) merged
+  is_merged =
+      merged_is l (seg 0) (seg (n - 1)) (payloads_of l ps) lies.0 (omega (arith, (is 0 first).like.long))
+      (is 0 first).like.in_bytes (is (n - 1) (omega (arith, first))).like.in_bytes
+      (subst InBytes (sym joined) (λ k. subst (λ z. z < 256) (sym (get_or-drop l.payload_at f k 0)) (small (l.payload_at + k))))
+      (subst (λ z. AtHeaders (IsLengthInRange z) hs) (sym all_long) ranges)
+
+  at_last : n - 1 + 1 ≡ n
+  at_last = omega (arith, first)
+
+  is_frame : merged ≡ f
+  is_frame =
+      let g = is_merged in
+      let a = is 0 first in
+      determined l merged f g.like.in_bytes small lies.0 (g.like.long ∙ all_long) (g.like.payload ∙ joined)
+      (λ k b o. g.like.headers k b o ∙ alike 0 first k b o)
+      (headers_map2 (udp_on merged (seg 0) f) hs g.like.udp_sums a.like.udp_sums)
+      g.like.lengths c.candidate.lengths g.like.sums c.candidate.sums
+      (headers_map2 (flags_on merged (seg (n - 1)) f) hs g.flags ((is (n - 1) (omega (arith, first))).last_flags at_last))
+      (headers_map2 (sequence_from merged (seg 0) f (0 * mss) (omega arith) small) hs g.sequence a.sequence)
+      (headers_map2 (ids_from fixed (none_fixed hs) merged (seg 0) f small) hs g.ids a.ids)
+
+  frame_is : (i : ℕ) → i < n → frame_at ps i ≡ seg i
+  frame_is i lt = let e : 0 + i ≡ i = omega arith in framed_at p seg 0 n i lt ∙ ap seg e
+
+  pub comes_back : frame_of_run l ps ≡ f
+  comes_back =
+      ap (λ z. merged_frame l z (frame_at ps (length ps - 1)) (payloads_of l ps)) (frame_is 0 first)
+      ∙ ap (λ z. merged_frame l (seg 0) (frame_at ps (z - 1)) (payloads_of l ps)) count
+      ∙ ap (λ z. merged_frame l (seg 0) z (payloads_of l ps)) (frame_is (n - 1) (omega (arith, first)))
+      ∙ is_frame
+
 -- ---- by the test
 
 abbrev segs_by : ℕ → Packet → Layout → List Packet
@@ -275,3 +336,11 @@ payload_stays mss p captured cut =
     let same = layout_is p.frame l s.cuttable.shape_is in
     ap (payloads_of (layout_of p.frame)) (cut_is mss p l cut s.cuttable.shape_is) ∙ ap (λ (x : Layout). payloads_of x (segs_by mss p l)) same
     ∙ joined mss p l captured.in_bytes s.cuttable ∙ ap (λ (x : Layout). drop x.payload_at p.frame) (sym same)
+
+pub cut_comes_back : CutComesBack
+cut_comes_back mss p captured cut =
+    let s = lawful mss p cut in
+    let l = s.layout in
+    let same = layout_is p.frame l s.cuttable.shape_is in
+    ap (frame_of_run (layout_of p.frame)) (cut_is mss p l cut s.cuttable.shape_is) ∙ ap (λ (x : Layout). frame_of_run x (segs_by mss p l)) same
+    ∙ comes_back mss p l captured.in_bytes s.cuttable

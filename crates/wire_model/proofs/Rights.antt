@@ -15,15 +15,17 @@ use Rattle.frame_layout.specs.declared.layout.Layer.TheVariants.{Ip4, Ip6, Udp, 
 use Rattle.frame_layout.proofs.Lemmas.{laid}
 use Rattle.pcap_io.specs.Capture.{Packet}
 use Rattle.offload_model.specs.Laws.{InBytes}
+use Rattle.offload_model.specs.Captured.{IsCaptured}
+use Rattle.pcap_io.specs.Limits.{most_frame}
 use Rattle.offload_model.specs.Edits.{put_length, put_sum, with_edits, with_sums, with_lengths_and_sums}
-use Rattle.offload_model.proofs.Filled.{put16_small}
+use Rattle.offload_model.proofs.Filled.{put16_small, with_sums-long}
 use Rattle.offload_model.proofs.Made.{with_lengths_and_sums-long, lengths_right, sums_right}
 use Rattle.wire_model.specs.declared.fate.Fate.TheVariants.{Right, Filled, Wrong}
 use Rattle.wire_model.specs.declared.wiring.Wiring.{Wiring}
 use Rattle.wire_model.specs.Filling.{fate_of, fates_of, fill_sum, fill_sums, filled_as, filled_of, is_due, is_whole, no_header, packet_fates, packet_fates_as, with_bytes, wrong_at, wrong_in}
 use Rattle.wire_model.specs.Wire.{cut_head, cut_of, is_cut, wire_of}
 use Rattle.offload_model.specs.Segments.{segments_by}
-use Rattle.wire_model.specs.Laws.{AllAreFilled, FilledIsRight, IsRight, OthersPass, RightStays}
+use Rattle.wire_model.specs.Laws.{AllAreFilled, FilledIsCaptured, FilledIsRight, IsRight, OthersPass, RightStays}
 
 -- ---- a field that holds what is written
 
@@ -200,3 +202,39 @@ others_pass o p never whole = uncut o p (by (shape_of p.frame) refl) whole
     by : (x : Option Layout) → shape_of p.frame ≡ x → filled_as o.fills_all x p ≡ p
     by None e = refl
     by (Some l) e = ap (λ b. if b then with_bytes p (fill_sums o.fills_all no_header l.headers p.frame) else p) (never l e)
+
+-- ---- a filled packet can be captured
+
+fill_small : (all : Bool) (ip : Header) (hs : List Header) (f : List ℕ) → InBytes f → InBytes (fill_sums all ip hs f)
+fill_small all ip [] f s = s
+fill_small all ip (h ∷ hs) f s = by (is_due all (fill_sums all h hs f) ip h.layer h.at) (fill_small all h hs f s)
+  where
+    by : (b : Bool) → InBytes (fill_sums all h hs f) → InBytes (if b then put_sum ip h.layer h.at (fill_sums all h hs f) else fill_sums all h hs f)
+    by true x = sum_small ip h.layer h.at (fill_sums all h hs f) x
+    by false x = x
+
+fill_long : (all : Bool) (ip : Header) (hs : List Header) (f : List ℕ) → length (fill_sums all ip hs f) ≡ length f
+fill_long all ip [] f = refl
+fill_long all ip (h ∷ hs) f = by (is_due all (fill_sums all h hs f) ip h.layer h.at) ∙ fill_long all h hs f
+  where
+    by : (b : Bool) → length (if b then put_sum ip h.layer h.at (fill_sums all h hs f) else fill_sums all h hs f) ≡ length (fill_sums all h hs f)
+    by true = with_sums-long ip (h ∷ []) (fill_sums all h hs f)
+    by false = refl
+
+pub filled_is_captured : FilledIsCaptured
+filled_is_captured all p c = by (shape_of p.frame)
+  where
+    whole : (l : Layout) (b : Bool) → IsCaptured (if b then with_bytes p (fill_sums all no_header l.headers p.frame) else p)
+    whole l true = record {
+      number = c.number;
+      sec = c.sec;
+      frac = c.frac;
+      original = c.original;
+      short = subst (λ n. n ≤ most_frame) (sym (fill_long all no_header l.headers p.frame)) c.short;
+      in_bytes = fill_small all no_header l.headers p.frame c.in_bytes;
+    }
+    whole l false = c
+
+    by : (o : Option Layout) → IsCaptured (filled_as all o p)
+    by None = c
+    by (Some l) = whole l (is_whole l p)

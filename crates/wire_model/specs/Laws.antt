@@ -7,7 +7,7 @@ use Rattle.pcap_io.specs.Capture.{Packet}
 use Rattle.offload_model.specs.Laws.{InBytes}
 use Rattle.offload_model.specs.Captured.{IsCaptured}
 use Rattle.offload_model.specs.Mergeable.{IsMergeable, payloads_of}
-use Rattle.offload_model.specs.Merged.{layout_of}
+use Rattle.offload_model.specs.Merged.{frame_of_run, layout_of}
 use Rattle.wire_model.specs.declared.wiring.Wiring.{Wiring}
 use Rattle.wire_model.specs.Filling.{filled_of, is_whole, packet_fates, wrong_in}
 use Rattle.wire_model.specs.Wire.{cut_of, is_cut, wire_of}
@@ -64,3 +64,15 @@ PayloadStays =
     → IsCaptured p
     → is_cut mss p ≡ true
     → payloads_of (layout_of p.frame) (cut_of mss p) ≡ drop (layout_of p.frame).payload_at p.frame
+
+-- and what they are merged to is its frame again
+abbrev pub CutComesBack : Type 0
+CutComesBack =
+    (mss : ℕ) (p : Packet)
+    → IsCaptured p
+    → is_cut mss p ≡ true
+    → frame_of_run (layout_of p.frame) (cut_of mss p) ≡ p.frame
+
+-- a packet stays one that can be captured once it is filled, so these hold of what is written of it
+abbrev pub FilledIsCaptured : Type 0
+FilledIsCaptured = (all : Bool) (p : Packet) → IsCaptured p → IsCaptured (filled_of all p)

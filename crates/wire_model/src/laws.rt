@@ -1,5 +1,6 @@
 //! Laws of what stands on the wire, and of what is written of a capture, record by record.
-ghost use Rattle.wire_model.specs.Laws.{AllAreFilled, CutIsMergeable, FilledIsRight, OthersPass, PayloadStays, RightStays};
+ghost use Rattle.wire_model.specs.Laws.{AllAreFilled, CutComesBack, CutIsMergeable, FilledIsCaptured, FilledIsRight};
+ghost use Rattle.wire_model.specs.Laws.{OthersPass, PayloadStays, RightStays};
 ghost use Rattle.wire_model.specs.Passing.{WiresGrow, WiringGoesByRecord};
 
 /// What is written goes record by record, in the order in which each is judged: the blocks, and whether it is whole.
@@ -41,4 +42,14 @@ pub fn cut_is_mergeable()
 /// The segments of a packet that is cut carry its payload, each byte once and in order.
 pub fn payload_stays()
     ensures law { PayloadStays }
+{}
+
+/// Merging the segments of a packet that is cut gives its frame again, byte for byte.
+pub fn cut_comes_back()
+    ensures law { CutComesBack }
+{}
+
+/// A packet that can be captured is one still once it is filled, so these laws hold of what is written of it.
+pub fn filled_is_captured()
+    ensures law { FilledIsCaptured }
 {}

@@ -11,8 +11,8 @@
 //! There is no code here that runs. Each public function has an empty body, and its clause `law` is proved: a filled packet
 //! of which no sum stays wrong is right ([`filled_is_right`]), none stays wrong where all are wanted ([`all_are_filled`]),
 //! a packet whose sums are right stays ([`right_stays`]), and so does one that isn't filled ([`others_pass`]); the segments
-//! of a packet that is cut may be merged ([`cut_is_mergeable`]), and carry its payload ([`payload_stays`]); what is
-//! written goes record by record ([`wiring_goes_by_record`]), and more bytes make none of it less ([`wires_grow`]).
+//! of a packet that is cut may be merged ([`cut_is_mergeable`]), carry its payload ([`payload_stays`]), and merged are its
+//! frame again ([`cut_comes_back`]; it is one that can be captured: [`filled_is_captured`]); what is written goes record by record ([`wiring_goes_by_record`]), and more bytes make none of it less ([`wires_grow`]).
 //!
 //! Tests: `wire_tests`, modules `frames` and `words`; and `contrib/fuzz-wire` beside the definition in Python.
 //!
@@ -32,7 +32,7 @@ mod wiring;
 pub use counts::Counts;
 pub use fate::Fate;
 pub use laws::{
-    all_are_filled, cut_is_mergeable, filled_is_right, others_pass, payload_stays, right_stays,
-    wires_grow, wiring_goes_by_record,
+    all_are_filled, cut_comes_back, cut_is_mergeable, filled_is_captured, filled_is_right,
+    others_pass, payload_stays, right_stays, wires_grow, wiring_goes_by_record,
 };
 pub use wiring::Wiring;

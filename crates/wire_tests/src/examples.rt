@@ -88,8 +88,9 @@ fn example_of_wire_fill(rt: HostRuntime) -> Result<(), Fail> {
 fn example_of_wire_packet(rt: HostRuntime) -> Result<(), Fail> {
     let alloc = rt.alloc();
     let original = 60;
+    let block = Sole::new(alloc)?;
     let mut out = Outcomes::with_room(alloc, 16)?;
-    let mut skb = Skb::new(Sole::new(alloc)?, 64, 64, Pieces::new(alloc));
+    let mut skb = Skb::new(block, 64, 64, Pieces::new(alloc));
     assert!(rt; skb.put_tail(&MERGED).is_ok());
     assert!(rt; skb.len() == 60 && skb.head().len() == 60 && skb.head_is_sole());
     let fates = fill_packet(&mut skb, original, false, &mut out);
