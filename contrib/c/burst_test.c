@@ -97,12 +97,17 @@ static void numbers(struct offload_frame *two, const uint8_t *long_frame) {
     check(call(&burst) == OFFLOAD_BURST_OK && burst.made == 1, "two frames are one run");
     check(burst.runs[0].first == 0 && burst.runs[0].n == 2 && burst.runs[0].m == 100 && burst.runs[0].length == 204, "and its numbers");
     check(burst.runs[0].headers_length == HEADERS && burst.runs[0].kind == 1 && burst.runs[0].modes == 0 && burst.next[0] == 1, "and its headers");
+    check(burst.runs[0].ip_at == 14 && burst.runs[0].leaf_at == 34 && burst.runs[0].leaf == 6, "and where its last headers stand");
     check(is_filled(&burst.runs[1], 3 * sizeof *burst.runs) && is_filled(burst.next + 2, 8), "what is behind the frames isn't touched");
     uint8_t whole[204];
     put_frame(whole, 1000, 5, 150);
     check(!memcmp(whole, burst.runs[0].headers, HEADERS), "the headers are those of the frame that one sender would have sent");
+    uint8_t pseudo[2];
+    put_sum(pseudo, summed(whole + 26, 8, 6 + 20 + 150));
+    check((uint16_t)~burst.runs[0].pseudo == (pseudo[0] << 8 | pseudo[1]), "the sum of the pseudo header");
     burst.segs = 1;
-    check(call(&burst) == OFFLOAD_BURST_OK && burst.made == 2 && burst.runs[1].n == 1 && burst.runs[1].headers_length == 0, "in runs of one");
+    check(call(&burst) == OFFLOAD_BURST_OK && burst.made == 2 && burst.runs[1].n == 1 && burst.runs[1].headers_length == 0 && burst.runs[1].leaf_at == 0,
+          "in runs of one");
     burst.count = 0;
     check(call(&burst) == OFFLOAD_BURST_OK && burst.made == 0 && is_filled(burst.runs, sizeof burst.runs), "no frames");
     for (uint32_t segs = 0; segs <= 4097; segs += 4097) {

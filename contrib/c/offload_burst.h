@@ -49,8 +49,13 @@ struct offload_run {
     uint32_t m;              /* bytes of payload of each but the last, which has 1 to m; 0 where n is 1 */
     uint32_t length;         /* bytes of the merged frame */
     uint32_t headers_length; /* 42 to 200; 0 where n is 1 */
+    uint16_t pseudo;         /* the sum of the pseudo header of the merged frame's TCP or UDP, not complemented: what a device
+                              * that sums itself wants in the field of the sum, high byte first; 0 where n is 1 */
     uint8_t kind;            /* 1 where frames were merged, 0 of one alone */
     uint8_t modes;           /* a bit for each IP header, the lowest for the first: set where the identification of an IPv4 header stays */
+    uint8_t ip_at;           /* where the last IP header begins, in bytes from the frame's start; 0 where n is 1 */
+    uint8_t leaf_at;         /* where the TCP or UDP header behind it begins; 0 where n is 1 */
+    uint8_t leaf;            /* 6 of TCP, 17 of UDP; 0 where n is 1 */
     uint8_t headers[200];    /* what is behind the first headers_length bytes is left as it was, or of any value */
 };
 

@@ -1,2 +1,4 @@
+mod Laying
+mod Placing
 mod Rising
 mod Saying

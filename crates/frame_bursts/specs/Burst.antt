@@ -2,7 +2,7 @@
 use Rattle.std.specs.Prelude.{◌≡◌, ◌⊎◌, ℕ, ◌+◌, ◌-◌, ◌<◌, ◌≤◌, List, ◌∷◌, ◌++◌, length, map, take, slice_index_or}
 use Rattle.std.specs.List.{AllByRecursion}
 use Rattle.pcap_io.specs.Capture.{Packet}
-use Rattle.offload_model.specs.Merged.{merged_of}
+use Rattle.offload_model.specs.Merged.{frame_at, merged_of}
 use Rattle.offload_model.specs.Rounds.{runs_in}
 use Rattle.offload_model.specs.Written.{head_of, record_of}
 use Rattle.offload_model.specs.Segments.{segments_of}
@@ -12,6 +12,7 @@ use Rattle.frame_runs.specs.declared.run.Run.{Run}
 use Rattle.frame_runs.specs.Chains.{chain_of, packet_at, run_of, AreSharedOut}
 use Rattle.frame_runs.specs.Lent.{packet_of}
 use Rattle.frame_runs.specs.MergedRun.{payloads_behind}
+use Rattle.frame_bursts.specs.Places.{AreZeros, HasPlaces}
 use Rattle.frame_bursts.specs.declared.told.BurstRun.{BurstRun}
 use Rattle.frame_bursts.specs.declared.burst.Refused.{Refused}
 use Rattle.frame_bursts.specs.declared.burst.Refused.TheVariants.{Usage, NoMemory, NoRoom}
@@ -45,6 +46,9 @@ pub record Says (r : BurstRun) (run : List Packet) : Type 0 where
   pub long : r.length ≡ length (merged_of run).packet.frame
   pub frame : take r.headers_length r.headers ++ payloads_behind r.headers_length run
       ≡ (merged_of run).packet.frame
+  pub places : 2 ≤ r.n
+      → HasPlaces (frame_at run 0) (merged_of run).packet.frame r.ip_at r.leaf_at r.leaf r.pseudo
+  pub alone : r.n ≡ 1 → AreZeros r.ip_at r.leaf_at r.leaf r.pseudo
 
 -- what is said of a run of an engine
 pub record Told (ps : List Packet) (next : List ℕ) (run : Run) (r : BurstRun) : Type 0 where

@@ -5,11 +5,12 @@ ghost use Rattle.pcap_io.specs.Capture.{Packet};
 ghost use Rattle.offload_model.specs.Merged.{merged_of};
 ghost use Rattle.frame_runs.specs.declared.run.Run.{Run as RunOf};
 ghost use Rattle.frame_runs.specs.Engine.{Knows, KnowsSome, AreRuns};
-ghost use Rattle.frame_runs.specs.MergedRun.{payloads_behind};
+ghost use Rattle.frame_runs.specs.MergedRun.{headers_size, payloads_behind};
 ghost use Rattle.frame_runs.specs.Lent.{packet_of, IsShort};
 ghost use Rattle.frame_bursts.specs.Burst.{Says, Told};
 
 use crate::lawful::frame_at;
+use crate::places::places_of;
 use frame_runs::{Engine, Lent, Run};
 
 /// What a run of frames comes to. Its frame is the first `headers_length` bytes of `headers`, and behind them what
@@ -28,10 +29,18 @@ pub struct BurstRun {
     pub length: u32,
     /// Bytes of its headers, 42 to 200; 0 of one frame.
     pub headers_length: u32,
+    /// The fold of the pseudo header that the TCP or UDP header's sum begins with, not complemented; 0 of one frame.
+    pub pseudo: u16,
     /// 1 where frames were merged, 0 of one frame.
     pub kind: u8,
     /// A bit for each IP header, the lowest for the first: set where the identification of an IPv4 header stays.
     pub modes: u8,
+    /// Where the last IP header begins, in bytes from the frame's start; 0 of one frame.
+    pub ip_at: u8,
+    /// Where the TCP or UDP header behind it begins; 0 of one frame.
+    pub leaf_at: u8,
+    /// 6 of TCP, 17 of UDP; 0 of one frame.
+    pub leaf: u8,
     pub headers: [u8; 200],
 }
 
@@ -43,6 +52,7 @@ fn put_headers(headers: &mut [u8; 200], run: &Run, first: &Lent<'_>) -> u32
     ensures frame { (rest : List Packet) → Knows run.now (packet_of first.now) rest
         → take result headers.new ++ payloads_behind result (packet_of first.now ∷ rest)
         ≡ (merged_of (packet_of first.now ∷ rest)).packet.frame }
+    ensures size { 1 ≤ run.now.more → result ≡ headers_size run.now }
 {
     if run.more == 0 {
         return 0;
@@ -69,6 +79,11 @@ fn put_run(told: &mut BurstRun, run: &Run, first: &Lent<'_>)
     told.modes = head.modes;
     told.length = run.frame_len(first);
     told.headers_length = put_headers(&mut told.headers, run, first);
+    let places = places_of(run, first, &told.headers, told.length);
+    told.ip_at = places.ip_at;
+    told.leaf_at = places.leaf_at;
+    told.leaf = places.leaf;
+    told.pseudo = places.pseudo;
 }
 
 /// Says what all runs of an engine come to.

@@ -27,8 +27,12 @@ const NO_RUN: BurstRun = BurstRun {
     m: 0,
     length: 0,
     headers_length: 0,
+    pseudo: 0,
     kind: 0,
     modes: 0,
+    ip_at: 0,
+    leaf_at: 0,
+    leaf: 0,
     headers: [0; 200],
 };
 
@@ -114,6 +118,7 @@ fn example_of_frame_bursts(rt: HostRuntime) {
     let run = runs[0];
     let is_one = matches!(merged, Ok(1));
     assert!(rt; is_one && (run.first, run.n, run.m, run.length, next[0]) == (0, 2, 4, 60, 1));
+    assert!(rt; (run.ip_at, run.leaf_at, run.leaf) == (14, 34, 6));
     assert!(rt; run.headers[..run.headers_length as usize] == MERGED[..54]);
 }
 

@@ -13,8 +13,6 @@ slice_bounds-put_headers-end c =
       c.headers_len-at.ensures.size,
     )
 
-pub returns-then-run-eq0 : goal.returns-then-run-eq0
-returns-then-run-eq0 c = record {
-  frame = λ rest k.
-      alone_frame (packet_of c.args.first.now) rest c.args.headers.now (omega (arith, k.more, c.if-run-eq0.true));
-}
+pub returns-then-run-eq0-clause-frame : goal.returns-then-run-eq0-clause-frame
+returns-then-run-eq0-clause-frame c = λ rest k.
+    alone_frame (packet_of c.args.first.now) rest c.args.headers.now (omega (arith, k.more, c.if-run-eq0.true))

@@ -1,0 +1,12 @@
+use Rattle.std.proofs.Common.{◌+◌, ◌-◌, [], drop, ap, ◌∙◌, arith}
+use Rattle.inet_sum.specs.Sum.{fold_of}
+use Rattle.frame_bursts.proofs.Laying.{header4}
+use Rattle.frame_bursts.proofs.places.pseudo4.Goals as goal
+
+pub returns : goal.returns
+returns c = record {
+  sum = c.fold.ensures.fold _ (c.add_number-2.ensures.sum _ (c.add_number.ensures.sum _
+      (c.add.ensures.sum [] c.new-sum.ensures.sum)))
+      ∙ ap fold_of (header4 (drop (c.args.at + 12) c.args.head.now) ((c.args.at + 20) - (c.args.at + 12)) c.from.result
+      c.args.protocol c.args.len (omega arith) c.from.ensures (omega (arith, c.ranges.protocol.fits)));
+}
