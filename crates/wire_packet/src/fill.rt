@@ -65,8 +65,8 @@ fn fill_layout(skb: &mut Skb, layout: &Layout, all: bool, out: &mut Outcomes) ->
     fates
 }
 
-/// Fills in the sums of a packet that was captured whole, has a shape and right lengths: those that are partial, or each
-/// one where `all` are wanted. Another packet stays as it is. Each byte of the payload is read once.
+/// Fills in the sums of a packet that was captured whole, has a shape and right lengths: those that are partial, or
+/// each one where `all` are wanted. Another packet stays as it is. Each byte of the payload is read once.
 pub fn fill_packet(skb: &mut Skb, original: u32, all: bool, out: &mut Outcomes) -> Fates
     requires front { IsFronted skb.old }
     requires short { length (buffer_bytes skb.old) ≤ most_frame }

@@ -3,9 +3,9 @@
 //! [`fill_packet`] fills in its sums where it lies, [`plan_cut`] tells how it is cut, and [`wire_packet`] writes what
 //! stands on the wire of it, from its own blocks, counts it and brings the blocks home.
 //!
-//! Proved: what is written is the definition's (clause `writes` of [`wire_packet`]), and so is what is counted (`counts`);
-//! the filled packet is the definition's (`filled` of [`fill_packet`]), in the same blocks (`kept`); and the plan has its
-//! packets (`plan` of [`plan_cut`]).
+//! Proved: what is written is the definition's (clause `writes` of [`wire_packet`]), and so is what is counted
+//! (`counts`); the filled packet is the definition's (`filled` of [`fill_packet`]), in the same blocks (`kept`); and
+//! the plan has its packets (`plan` of [`plan_cut`]).
 //!
 //! ```
 //! let fates = fill_packet(&mut skb, original, false, &mut out);

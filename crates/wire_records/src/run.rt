@@ -121,9 +121,9 @@ impl WireRun {
     /// Writes the next record as it goes over the wire: it is read into blocks, its sums are filled in, and what stands
     /// on the wire of it is written, each packet behind its record header, and counted. The sink isn't flushed.
     ///
-    /// A record is judged in this order: its header, whether it needs more blocks than there are, its body. A read fault
-    /// or a write fault only where the count of the source or the sink rose. All blocks are home again, whatever the
-    /// answer.
+    /// A record is judged in this order: its header, whether it needs more blocks than there are, its body. A read
+    /// fault or a write fault only where the count of the source or the sink rose. All blocks are home again,
+    /// whatever the answer.
     pub fn next<S: Source, K: Sink>(
         &mut self,
         reader: &mut CaptureReader<'_, S>,

@@ -18,6 +18,7 @@ enum Wire {
 
 /// A line of words, how the merged frame is changed and by how much its original length is greater, what stands on the
 /// wire, and the numbers of the summary: frames cut, sums filled, and wrong sums left.
+#[derive(Clone, Copy)]
 struct Row(&'static str, &'static [Edit], u32, Wire, [u8; 3]);
 
 /// The places of IPv4's total length and sum, and of TCP's control bits and sum.
@@ -139,7 +140,8 @@ fn edited(edits: &[Edit]) -> [u8; 60] {
 #[test]
 fn frames_are_filled_and_cut(rt: HostRuntime) -> Result<(), Fail> {
     let alloc = rt.alloc();
-    for Row(line, edits, more, wire, [cut, filled, wrong]) in &ROWS {
+    for row in &ROWS {
+        let Row(line, edits, more, wire, [cut, filled, wrong]) = *row;
         let given = capture(alloc, &[(&edited(edits), 60 + more)])?;
         let wanted = match wire {
             Wire::Both => capture(alloc, &[(&FIRST, 58), (&SECOND, 56)])?,
