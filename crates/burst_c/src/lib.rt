@@ -5,8 +5,8 @@
 //!
 //! Proved, of [`offload_gro_burst`]:
 //!
-//! - `merges`, `back`: on 0 the first `count` of `runs` are what the frames come to, each frame is in one run, once, and
-//!   the segments of each run's merged frame are its frames, byte for byte.
+//! - `merges`, `back`: on 0 the first `count` of `runs` are what the frames come to, each frame is in one run, once,
+//!   and the segments of each run's merged frame are its frames, byte for byte.
 //! - `usage`, `room`: the answer is 2 exactly where a number or a frame isn't lawful, and 9 exactly where all is lawful
 //!   and a list too short. `codes`: else it is 0 or 7.
 //! - `untouched`: but on 0 nothing is written, and `count` is 0. `sizes`: the lists stay as long as they are.
@@ -17,8 +17,8 @@
 //!
 //! Why so:
 //!
-//! - **It is an archive of its own**, besides `offload_c`: who merges bursts alone needs neither rounds nor buffers, and
-//!   builds and links two fifths of what the whole library stands on.
+//! - **It is an archive of its own**, besides `offload_c`: who merges bursts alone needs neither rounds nor buffers,
+//!   and builds and links two fifths of what the whole library stands on.
 #![tactic(auto)]
 
 mod exports;

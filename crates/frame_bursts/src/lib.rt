@@ -38,8 +38,9 @@
 //! ```
 //!
 //! Its parts: `lawful` (what a caller may pass), `places` (where a merged frame's last headers stand, and the sum of
-//! their pseudo header), `told` (what is said of a run), `burst` (the call). `specs/Burst.antt` says what a lawful burst
-//! is, what is said of a run, and what merging a burst comes to; `specs/Places.antt` what is said of its last headers.
+//! their pseudo header), `told` (what is said of a run), `burst` (the call). `specs/Burst.antt` says what a lawful
+//! burst is, what is said of a run, and what merging a burst comes to; `specs/Places.antt` what is said of its last
+//! headers.
 //!
 //! Tests: `merge_tests`, module `examples`; `contrib/c/burst_check`.
 //!
@@ -49,8 +50,8 @@
 //!   have nothing in common, and threads need no lock.
 //! - **A run has its headers and indices, and no slices**: what a caller writes out are the headers and then parts of
 //!   its own frames, for which it has the pointers.
-//! - **Where the last headers stand is told with each run**, and so is the sum of their pseudo header: a device that cuts
-//!   a merged frame itself asks for both, and who read them again would have to walk the headers.
+//! - **Where the last headers stand is told with each run**, and so is the sum of their pseudo header: a device that
+//!   cuts a merged frame itself asks for both, and who read them again would have to walk the headers.
 //! - **What a burst has to be is what the model asks of a capture** (`AreCaptured`): so that a run's segments come back
 //!   needs no premise, and all of it is tested.
 #![tactic(auto)]

@@ -112,8 +112,8 @@ pub(crate) fn places_in(layout: &Layout, head: &[u8], len: u32) -> Places
     }
 }
 
-/// The places in what a run comes to, whose first frame is `first`: a frame of `len` bytes with the run's headers at its
-/// front, which `headers` begins with. Zeros where the run is one frame.
+/// The places in what a run comes to, whose first frame is `first`: a frame of `len` bytes with the run's headers at
+/// its front, which `headers` begins with. Zeros where the run is one frame.
 pub(crate) fn places_of(run: &Run, first: &Lent<'_>, headers: &[u8; 200], len: u32) -> Places
     requires run { KnowsSome run.now (packet_of first.now) }
     ensures alone { run.now.more ≡ 0 → AreZeros result.ip_at result.leaf_at result.leaf result.pseudo }

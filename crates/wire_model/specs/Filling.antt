@@ -1,5 +1,5 @@
--- Sums that a host leaves to its card. Where a card fills sums in, the host puts the sum of the pseudo header alone into
--- the field of TCP or UDP, as a partial sum, and a capture on the host shows that.
+-- Sums that a host leaves to its card. Where a card fills sums in, the host puts the sum of the pseudo header alone
+-- into the field of TCP or UDP, as a partial sum, and a capture on the host shows that.
 use Rattle.std.specs.Prelude.{ℕ, ◌+◌, ◌-◌, Bool, false, ◌&&◌, ◌||◌, ◌==◌, if◌then◌else◌, Option, None, Some}
 use Rattle.std.specs.Prelude.{List, [], ◌∷◌, length}
 use Rattle.inet_sum.specs.Sum.{fold_of}
