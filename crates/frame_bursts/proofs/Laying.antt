@@ -1,5 +1,6 @@
 -- Headers that are laid one behind the other, and bytes at the front of a frame.
-use Rattle.std.proofs.Common.{zero, suc, ◌≡◌, ℕ, ◌+◌, ◌/◌, ◌%◌, ◌<◌, ◌≤◌, List, [], ◌∷◌, ◌++◌, length, get_or}
+use Rattle.std.proofs.Common.{zero, suc, ◌≡◌, ℕ, ◌+◌, ◌/◌, ◌%◌, ◌<◌, ◌≤◌, List, []}
+use Rattle.std.proofs.Common.{◌∷◌, ◌++◌, length, get_or}
 use Rattle.std.proofs.Common.{take, drop, append_assoc, refl, sym, ap, ◌∙◌, arith}
 use Rattle.std.proofs.lemmas.List.{take-append-le, drop-append-le, length-drop}
 use Rattle.net_bytes.specs.Bytes.{part, bytes16}
@@ -8,7 +9,8 @@ use Rattle.frame_layout.specs.Front.{AreAddressesWithin}
 use Rattle.frame_layout.specs.Headers.{AreLaid, size}
 use Rattle.frame_layout.specs.declared.layout.Header.{Header}
 use Rattle.frame_layout.specs.declared.layout.Layer.{Layer}
-use Rattle.frame_layout.specs.declared.layout.Layer.TheVariants.{Ethernet, Tag, Ip4, Ip6, Udp, Vxlan, Gre, KeyedGre, Tcp}
+use Rattle.frame_layout.specs.declared.layout.Layer.TheVariants.{Ethernet, Tag, Ip4, Ip6, Udp, Vxlan, Gre, KeyedGre}
+use Rattle.frame_layout.specs.declared.layout.Layer.TheVariants.{Tcp}
 
 low : (hs : List Header) (start n : ℕ) → AreLaid start hs n → start ≤ n
 low [] start n laid = laid

@@ -39,8 +39,7 @@
 //!
 //! Its parts: `lawful` (what a caller may pass), `places` (where a merged frame's last headers stand, and the sum of
 //! their pseudo header), `told` (what is said of a run), `burst` (the call). `specs/Burst.antt` says what a lawful
-//! burst is, what is said of a run, and what merging a burst comes to; `specs/Places.antt` what is said of its last
-//! headers.
+//! burst is, what is said of a run, and what merging comes to; `specs/Places.antt` what is said of its last headers.
 //!
 //! Tests: `merge_tests`, module `examples`; `contrib/c/burst_check`.
 //!

@@ -1,5 +1,6 @@
 //! Where a merged frame's last headers stand, as a device asks for them.
-ghost use Rattle.std.specs.Prelude.{◌≡◌, ◌+◌, ◌-◌, ◌<◌, ◌≤◌, ◌^◌, ◌++◌, ℕ, List, length, take};
+ghost use Rattle.std.specs.Prelude.{◌≡◌, ◌+◌, ◌-◌, ◌<◌, ◌≤◌, ◌^◌, ◌++◌};
+ghost use Rattle.std.specs.Prelude.{ℕ, List, length, take};
 ghost use Rattle.inet_sum.specs.Sum.{fold_of};
 ghost use Rattle.frame_layout.specs.Candidate.{pseudo_header};
 ghost use Rattle.frame_layout.specs.Front.{AreAddressesWithin};
