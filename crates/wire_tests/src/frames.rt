@@ -130,7 +130,7 @@ static ROWS: [Row; 14] = [
 fn edited(edits: &[Edit]) -> [u8; 60] {
     let mut frame = MERGED;
     for (at, bytes) in edits {
-        if let Some(place) = frame.get_mut(*at..*at + 2) {
+        if let Some(place) = frame.get_mut(*at..at.saturating_add(2)) {
             place.copy_from_slice(bytes);
         }
     }

@@ -19,7 +19,8 @@ pub fn capture(alloc: Global, records: &[(&[u8], u32)]) -> Result<Vec<u8>, Alloc
     let mut bytes = FILE_HEADER.to_vec(alloc)?;
     for (frame, original) in records {
         bytes.extend_from_slice(&[1, 0, 0, 0, 2, 0, 0, 0])?;
-        bytes.extend_from_slice(&(frame.len() as u32).to_le_bytes())?;
+        let captured = u32::try_from(frame.len()).unwrap_or(u32::MAX);
+        bytes.extend_from_slice(&captured.to_le_bytes())?;
         bytes.extend_from_slice(&original.to_le_bytes())?;
         bytes.extend_from_slice(frame)?;
     }
