@@ -8,6 +8,8 @@ mod examples;
 #[cfg(test)]
 mod frames;
 #[cfg(test)]
+mod layouts;
+#[cfg(test)]
 mod whole;
 #[cfg(test)]
 mod words;

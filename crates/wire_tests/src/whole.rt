@@ -14,13 +14,17 @@ pub fn words(alloc: Global, line: &str) -> Result<Vec<String>, AllocError> {
     Ok(words)
 }
 
+/// How many bytes a frame has.
+pub fn length(frame: &[u8]) -> u32 {
+    u32::try_from(frame.len()).unwrap_or(u32::MAX)
+}
+
 /// A capture of one record after another, each with a frame and an original length.
 pub fn capture(alloc: Global, records: &[(&[u8], u32)]) -> Result<Vec<u8>, AllocError> {
     let mut bytes = FILE_HEADER.to_vec(alloc)?;
     for (frame, original) in records {
         bytes.extend_from_slice(&[1, 0, 0, 0, 2, 0, 0, 0])?;
-        let captured = u32::try_from(frame.len()).unwrap_or(u32::MAX);
-        bytes.extend_from_slice(&captured.to_le_bytes())?;
+        bytes.extend_from_slice(&length(frame).to_le_bytes())?;
         bytes.extend_from_slice(&original.to_le_bytes())?;
         bytes.extend_from_slice(frame)?;
     }
