@@ -119,7 +119,7 @@ fn example_of_frame_bursts(rt: HostRuntime) {
     let is_one = matches!(merged, Ok(1));
     assert!(rt; is_one && (run.first, run.n, run.m, run.length, next[0]) == (0, 2, 4, 60, 1));
     assert!(rt; (run.ip_at, run.leaf_at, run.leaf) == (14, 34, 6));
-    assert!(rt; run.headers[..run.headers_length as usize] == MERGED[..54]);
+    assert!(rt; run.headers_length == 54 && run.headers[..54] == MERGED[..54]);
 }
 
 #[test]
