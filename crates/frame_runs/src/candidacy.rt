@@ -13,10 +13,12 @@ use inet_sum::Partial;
 use ip_headers::ip4;
 use merge_rule::Candidacy;
 
-/// What a packet adds to a run: the sum of its payload, and its TCP control bits.
+/// What a packet adds to a run.
 #[derive(Drop)]
 pub(crate) struct Addition {
+    /// The sum of its payload.
     pub(crate) payload: Partial,
+    /// Its TCP control bits; 0 of a datagram.
     pub(crate) flags: u8,
 }
 

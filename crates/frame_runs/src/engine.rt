@@ -22,13 +22,16 @@ use crate::run::{Run, progress_of};
 use merge_rule::{Candidacy, Progress};
 use std::alloc::{AllocError, Global};
 
-/// The runs of a list of packets in the order of their first packets; for each packet, which one follows it in its run;
-/// the open run of each flow; and the run that the last packet is in, where that is open. No packet is in it.
+/// The runs of a list of packets, by index: no packet is in it.
 #[derive(Drop)]
 pub struct Engine {
+    /// The runs in the order of their first packets.
     pub runs: Vec<Run>,
+    /// For each packet the index of the one that follows it in its run.
     pub next: Vec<u32>,
+    /// The open run of each flow.
     pub flows: Flows,
+    /// The place in `runs` of the run that the last packet is in, where that is open.
     pub last: Option<usize>,
 }
 

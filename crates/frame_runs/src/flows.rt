@@ -24,20 +24,24 @@ use std::marker::Model;
 /// The places of the table.
 const PLACES: usize = 256;
 
-/// The open group of a flow: a packet of the flow, the hash of its key, and the place of its run in the list of runs.
+/// The open group of a flow.
 #[derive(Clone, Copy)]
 pub struct Group {
+    /// The index of a packet of the flow.
     pub packet: u32,
+    /// The hash of the flow's key.
     pub hash: u32,
+    /// The place of the flow's run in the list of runs.
     pub run: usize,
 }
 
-/// The open groups. A group stands at its hash's place of a table, where the key of the slab is counted from 1; and
-/// where another open group stands there, the map has it.
+/// The open groups.
 #[derive(Drop)]
 pub struct Flows {
     groups: Slab<Group>,
+    /// Places in the slab of groups whose own place of the table another open group has.
     keys: HashMap<Key, usize>,
+    /// By the hash, a group's place in the slab, counted from 1; 0 where there is none.
     places: Vec<usize>,
 }
 

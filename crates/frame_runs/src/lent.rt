@@ -7,12 +7,15 @@ ghost use Rattle.frame_runs.specs.Frames.{AreBytes};
 use crate::frame::Frame;
 use inet_sum::Partial;
 
-/// A frame in one slice, as C has it too: how many bytes it had before it was cut short, and its number.
+/// A frame in one slice, as C has it too.
 #[repr(C)]
 #[derive(Clone, Copy)]
 pub struct Lent<'a> {
+    /// Its captured bytes, from Ethernet's header on.
     pub bytes: &'a [u8],
+    /// How many bytes it had before it was cut short.
     pub original: u32,
+    /// Its place among the frames that are given, which a run's record has of its first.
     pub number: u32,
 }
 

@@ -15,17 +15,22 @@ use inet_sum::Partial;
 use merge_rule::{Candidacy, Progress, first_progress, is_next, next_progress};
 use net_bytes::be32;
 
-/// A run of packets of one layout: the indices of its first and its last packet, how many follow the first, the sum of
-/// their payloads, the last one's control bits, and what the run has come to. A packet that may not be merged is alone
-/// and has no layout.
+/// A run of packets of one layout. A packet that may not be merged is alone in its run.
 #[derive(Drop)]
 pub struct Run {
+    /// The index of its first packet.
     pub first: u32,
+    /// The index of its last packet.
     pub last: u32,
+    /// How many packets follow the first.
     pub more: u32,
+    /// The headers of its packets; none where the packet may not be merged.
     pub layout: Option<Layout>,
+    /// The sum of all payloads.
     pub payload: Partial,
+    /// The last packet's control bits.
     pub flags: u8,
+    /// What the run has come to, as the rule for the next packet wants it.
     pub progress: Progress,
 }
 

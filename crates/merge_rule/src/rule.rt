@@ -13,13 +13,14 @@ use crate::plain::{are_plain_next, are_plain6_next};
 use frame_layout::{Header, Layout};
 use pcap_io::FRAME_LIMIT;
 
-/// What a run has come to: whether it may take one more packet, the length of its merged frame, and a bit for each IP
-/// header whose identification stays, the lowest for the first.
+/// What a run has come to.
 #[derive(Clone, Copy)]
 pub struct Progress {
-    /// In bytes, the headers once and all payloads.
+    /// The length of its merged frame, in bytes: the headers once and all payloads.
     pub total: usize,
+    /// Whether it may take one more packet.
     pub is_open: bool,
+    /// A bit for each IP header, the lowest for the first, set where that is IPv4 and its identification stays.
     pub modes: u8,
 }
 

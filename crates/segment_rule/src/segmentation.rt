@@ -13,12 +13,14 @@ use inet_sum::Partial;
 /// ACK alone, of TCP's control bits.
 const ACK: u8 = 0x10;
 
-/// How a merged frame is cut: n segments with a payload of m bytes each, or what is left at the last one.
+/// How a merged frame is cut.
 #[derive(Drop)]
 pub struct Segmentation {
     /// The frame's headers.
     pub layout: Layout,
+    /// How many segments it gives.
     pub n: u32,
+    /// The payload of each but the last, in bytes; the last one has what is left.
     pub m: u32,
     /// A bit for each IP header, the lowest for the first, set where that is IPv4 and its identification stays.
     pub modes: u8,

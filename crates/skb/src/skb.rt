@@ -23,6 +23,14 @@ use std::marker::Model;
 
 /// A packet buffer: the bytes `from..to` of a head block, and pieces of other blocks after them. It must be spent:
 /// attached or released.
+///
+/// ```text
+///   head: a block of 2048 bytes                        rest: pieces of other blocks
+/// +----------+-----------------------+----------+     +---------+   +---------+
+/// | headroom | the bytes from..to    | tailroom |---->| piece 0 |-->| piece 1 |--> ..
+/// +----------+-----------------------+----------+     +---------+   +---------+
+/// 0         from                     to       2048
+/// ```
 pub struct Skb {
     /// The block of the first bytes. Only one that is a Sole is written.
     pub(crate) head: Holder,
