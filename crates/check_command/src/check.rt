@@ -21,7 +21,7 @@ ghost use Rattle.check_totals.specs.Counts.{totals_of, HasLanes, IsQueueWithin, 
 ghost use Rattle.check_totals.specs.Lines.{check_lines};
 ghost use Rattle.check_totals.specs.Checking.{counting, checking_whole};
 ghost use Rattle.check_totals.specs.Tallies.{Tallies};
-ghost use Rattle.rounds.specs.Merging.{options_of as rounds_options};
+ghost use Rattle.rounds.specs.Merging.{options_of as rounds_options, TakesTo};
 ghost use Rattle.checking.specs.Handling.{ending_of as check_ending};
 ghost use Rattle.command_answers.specs.Checking.{checking_made, ChecksTo, ReadAnswers};
 ghost use Rattle.check_command.specs.Checking.{first_line, status_if, Checked, LinesEnd, Tells};
@@ -169,9 +169,8 @@ fn count_behind<R: Threads + Wait + Sync, S: Source + Send, G: Gate + Sync>(
     ensures home { rounds.new.home ≡ rounds.new.blocks }
     ensures named { (h : ℕ → ℕ) → weighed h rounds.new.stock ≡ weighed h rounds.old.stock }
     ensures same { rounds.new.blocks ≡ rounds.old.blocks }
-    ensures taken { result ≡ CheckEnd.Done → Told (S.left source.old) (S.left source.new)
-        (λ rest left. min (rounds.old.taken + round_need (found_at (first_place file Ethernet 0) rest).packets)
-        (2 ^ 64 - 1) ≤ rounds.new.taken) }
+    ensures taken { Told (S.left source.old) (S.left source.new) (TakesTo rounds.old.blocks rounds.old.budget
+        (first_place file Ethernet 0) rounds.old.taken rounds.new.taken (check_ending result)) }
     ensures later { S.faults source.old ≤ S.faults source.new }
     ensures read { result ≡ CheckEnd.ReadFault → Rose (S.faults source.old) (S.faults source.new) }
 {

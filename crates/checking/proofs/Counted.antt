@@ -7,7 +7,7 @@ use Rattle.off_io.proofs.Telling.{Told-weaker}
 use Rattle.pcap_io.specs.declared.place.Place.{Place}
 use Rattle.pcap_io.specs.Reading.{Loses}
 use Rattle.offload_model.specs.Need.{round_need}
-use Rattle.offload_model.specs.Passing.{NoMemory}
+use Rattle.offload_model.specs.Passing.{Ending, NoMemory}
 use Rattle.offload_model.specs.Written.{Options}
 use Rattle.gro.specs.Slots.{packet_of}
 use Rattle.check_totals.specs.Counts.{Counts, added, round_totals, totals_of, HasLanes}
@@ -16,9 +16,11 @@ use Rattle.check_totals.specs.Tallies.{Tallies}
 use Rattle.rounds.specs.declared.round.RoundEnd.{RoundEnd}
 use Rattle.rounds.specs.declared.round.RoundEnd.TheVariants as rounds
 use Rattle.rounds.specs.declared.round.RoundRead.{RoundRead}
-use Rattle.rounds.specs.Merging.{options_of, TakesAll}
+use Rattle.rounds.specs.Merging.{options_of, TakesBehind, TakesTo}
 use Rattle.rounds.specs.RoundsState.{RoundsState}
-use Rattle.rounds.proofs.Merging.{done_taken, fewer_by, is_short}
+use Rattle.rounds.proofs.Merging.{fewer_by, is_short}
+use Rattle.rounds.proofs.Needs.{end_told, ending_at}
+use Rattle.rounds.specs.Reading.{GivesRound}
 use Rattle.rounds.specs.Handled.{Ends, Handled}
 use Rattle.rounds.specs.Reads.{Spot, ReadRound, Reads, is_full}
 use Rattle.rounds.proofs.Rows.{reads_lose}
@@ -26,12 +28,8 @@ use Rattle.checking.specs.Whole.{Checked}
 use Rattle.checking.specs.Handling.{ending_of, Ahead, AreOf, CountsLast, CountsRound, EndsBehind}
 use Rattle.checking.specs.declared.capture.CheckEnd.{CheckEnd}
 use Rattle.checking.specs.declared.capture.CheckEnd.TheVariants as ends
-use Rattle.checking.proofs.RoundsCounted.{ahead_none, goes_then, ends_then, taken_then, full_given, end_given, malformed_given, fault_given, empty_given, memory_given}
+use Rattle.checking.proofs.RoundsCounted.{ahead_none, goes_then, ends_then, taken_then, full_given, end_given, malformed_given, fault_given, empty_given}
 use Rattle.checking.proofs.RoundsCounted.{more_lanes, end_within, start_lanes}
-
-abbrev is_done : CheckEnd → Bool
-is_done ends.Done = true
-is_done _ = false
 
 abbrev is_fault : CheckEnd → Bool
 is_fault ends.ReadFault = true
@@ -45,13 +43,14 @@ module _ (blocks : ℕ) (options : Options) where
   -- what is said of an end
   record Says (k : ℕ) (from to : Spot) (c c1 : Counts) (end : CheckEnd) : Type 0 where
     given : Told from.left to.left (EndsBehind k blocks options from.place c c1 end)
-    taken : end ≡ ends.Done → Told from.left to.left (TakesAll from.taken to.taken from.place)
+    taken : Told from.left to.left (TakesBehind k from.place from.taken to.taken (ending_of end))
     read : end ≡ ends.ReadFault → Rose from.faults to.faults
 
   short_says : (k : ℕ) (from to : Spot) (c c1 : Counts) (end : CheckEnd) → end ≡ ends.NoMemory → Told from.left to.left Loses → Says k from to c c1 end
   short_says k from to c c1 end is lost = record {
     given = subst (λ (e : CheckEnd). Told from.left to.left (EndsBehind k blocks options from.place c c1 e)) (sym is) (short_given k from.place from.left to.left c c1 lost);
-    taken = λ done. absurd (false≢true (ap is_done (sym is ∙ done)));
+    taken = subst (λ (e : CheckEnd). Told from.left to.left (TakesBehind k from.place from.taken to.taken (ending_of e))) (sym is)
+        (Told-weaker from.left to.left Loses (TakesBehind k from.place from.taken to.taken NoMemory) (λ bytes left _. tt) lost);
     read = λ fault. absurd (false≢true (ap is_fault (sym is ∙ fault)));
   }
 
@@ -65,6 +64,19 @@ module _ (blocks : ℕ) (options : Options) where
     took : min (from.taken + round_need (map packet_of read.round.packets)) (2 ^ 64 - 1) ≤ to.taken
     took = omega (arith, r.took, r.need)
 
+    given_as : (e : RoundEnd) → read.end ≡ e → Told from.left to.left (GivesRound blocks from.place to.place read.round.packets e)
+    given_as e is = subst (λ (x : RoundEnd). Told from.left to.left (GivesRound blocks from.place to.place read.round.packets x)) is r.given
+
+    -- as many blocks were taken as the last packets need
+    last_taken : (e : RoundEnd) (want end : CheckEnd) → ending_of want ≡ ending_at k e → CountsLast c c1 counts want end → Told from.left to.left (GivesRound blocks from.place to.place read.round.packets e)
+        → Told from.left to.left (TakesBehind k from.place from.taken to.taken (ending_of end))
+    last_taken e want end same (inl w) told =
+        subst (λ (x : Ending). Told from.left to.left (TakesBehind k from.place from.taken to.taken x)) (sym (ap ending_of w.0 ∙ same))
+        (end_told blocks k from.taken to.taken from.place to.place read.round.packets took e from.left to.left told)
+    last_taken e want end same (inr f) told =
+        Told-weaker from.left to.left (GivesRound blocks from.place to.place read.round.packets e) (TakesBehind k from.place from.taken to.taken (ending_of end))
+        (λ bytes left _. subst (λ (x : CheckEnd). TakesBehind k from.place from.taken to.taken (ending_of x) bytes left) (sym f) tt) told
+
     not_last : (want end : CheckEnd) (test : CheckEnd → Bool) (X : Type 0) → test want ≡ false → test ends.NoMemory ≡ false → CountsLast c c1 counts want end → test end ≡ true → X
     not_last want end test X isnt none (inl w) does = absurd (false≢true (sym isnt ∙ sym (ap test w.0) ∙ does))
     not_last want end test X isnt none (inr f) does = absurd (false≢true (sym none ∙ sym (ap test f) ∙ does))
@@ -74,32 +86,29 @@ module _ (blocks : ℕ) (options : Options) where
     says_at rounds.Full end is isnt d = absurd (false≢true (sym isnt))
     says_at rounds.End end is isnt d = record {
       given = end_given blocks options from.place to.place read.round.packets r.some fits k from.left to.left c c1 read.end end is (fewer_by read.end _ _ (ap is_short is) r.fewer) d r.given;
-      taken = λ done. done_taken blocks from.taken to.taken from.place to.place read.round.packets from.left to.left read.end is took r.given;
+      taken = last_taken rounds.End ends.Done end refl d (given_as rounds.End is);
       read = λ fault. not_last ends.Done end is_fault (Rose from.faults to.faults) refl refl d (ap is_fault fault);
     }
     says_at (rounds.Malformed fault) end is isnt d = record {
       given = malformed_given blocks options from.place to.place read.round.packets r.some fits k from.left to.left c c1 read.end fault end is (fewer_by read.end _ _ (ap is_short is) r.fewer) d
           r.given;
-      taken = λ done. not_last (ends.Malformed fault) end is_done (Told from.left to.left (TakesAll from.taken to.taken from.place)) refl refl d (ap is_done done);
+      taken = last_taken (rounds.Malformed fault) (ends.Malformed fault) end refl d (given_as (rounds.Malformed fault) is);
       read = λ failed. not_last (ends.Malformed fault) end is_fault (Rose from.faults to.faults) refl refl d (ap is_fault failed);
     }
     says_at rounds.ReadFault end is isnt d = record {
       given = fault_given blocks options from.place to.place read.round.packets r.some fits k from.left to.left c c1 read.end end is (fewer_by read.end _ _ (ap is_short is) r.fewer) d r.given;
-      taken = λ done. not_last ends.ReadFault end is_done (Told from.left to.left (TakesAll from.taken to.taken from.place)) refl refl d (ap is_done done);
+      taken = last_taken rounds.ReadFault ends.ReadFault end refl d (given_as rounds.ReadFault is);
       read = λ fault. r.failed is;
     }
     says_at (rounds.PoolEmpty need) end is isnt d = record {
       given = subst (λ (e : CheckEnd). Told from.left to.left (EndsBehind k blocks options from.place c c1 e)) (sym d.0)
           (empty_given blocks options from.place to.place read.round.packets r.some fits k from.left to.left c c1 read.end need is (fewer_by read.end _ _ (ap is_short is) r.fewer) lanes d.1 r.given);
-      taken = λ done. absurd (false≢true (ap is_done (sym d.0 ∙ done)));
+      taken = subst (λ (x : CheckEnd). Told from.left to.left (TakesBehind k from.place from.taken to.taken (ending_of x))) (sym d.0)
+          (end_told blocks k from.taken to.taken from.place to.place read.round.packets took (rounds.PoolEmpty need) from.left to.left (given_as (rounds.PoolEmpty need) is));
       read = λ fault. absurd (false≢true (ap is_fault (sym d.0 ∙ fault)));
     }
-    says_at rounds.NoMemory end is isnt d = record {
-      given = subst (λ (e : CheckEnd). Told from.left to.left (EndsBehind k blocks options from.place c c1 e)) (sym d)
-          (memory_given blocks options from.place to.place read.round.packets r.some fits k from.left to.left c c1 read.end is r.given);
-      taken = λ done. absurd (false≢true (ap is_done (sym d ∙ done)));
-      read = λ fault. absurd (false≢true (ap is_fault (sym d ∙ fault)));
-    }
+    says_at rounds.NoMemory end is isnt d = short_says k from to c c1 end d (given_as rounds.NoMemory is)
+    says_at rounds.GivenUp end is isnt d = short_says k from to c c1 end d (given_as rounds.GivenUp is)
 
     -- one that is full, behind which more may follow
     goes_sum : (e : RoundEnd) → CountsRound c c1 counts k e None → (e ≡ rounds.Full) × (c1 ≡ added c counts)
@@ -109,6 +118,7 @@ module _ (blocks : ℕ) (options : Options) where
     goes_sum rounds.ReadFault d = absurd d
     goes_sum (rounds.PoolEmpty need) d = absurd d
     goes_sum rounds.NoMemory d = absurd d
+    goes_sum rounds.GivenUp d = absurd d
 
     goes_given : read.end ≡ rounds.Full → c1 ≡ added c counts → Told from.left to.left (Ahead blocks options 1 from.place to.place c c1 from.taken to.taken)
     goes_given is sum =
@@ -122,6 +132,7 @@ module _ (blocks : ℕ) (options : Options) where
     full_short rounds.ReadFault end is d = absurd (false≢true is)
     full_short (rounds.PoolEmpty need) end is d = absurd (false≢true is)
     full_short rounds.NoMemory end is d = absurd (false≢true is)
+    full_short rounds.GivenUp end is d = absurd (false≢true is)
 
   -- ---- all of them
 
@@ -130,7 +141,7 @@ module _ (blocks : ℕ) (options : Options) where
 
   record Counted (start : Spot) (c0 : Counts) (to : Spot) (new : Counts) (end : CheckEnd) : Type 0 where
     given : Told start.left to.left (Tallies (counting blocks options start.place) c0 new (ending_of end))
-    taken : end ≡ ends.Done → Told start.left to.left (TakesAll start.taken to.taken start.place)
+    taken : Told start.left to.left (TakesTo blocks options.budget start.place start.taken to.taken (ending_of end))
     read : end ≡ ends.ReadFault → Rose start.faults to.faults
 
   abbrev Gone : Spot → Counts → ℕ → Spot → Counts → Type 0
@@ -140,7 +151,7 @@ module _ (blocks : ℕ) (options : Options) where
       → Counted start c0 to new end
   says_then start c0 k at to old new end gone later says = record {
     given = ends_then blocks options k start.place at.place to.place start.left at.left to.left c0 old new start.taken at.taken to.taken end gone says.given;
-    taken = λ done. taken_then blocks options k start.place at.place to.place start.left at.left to.left c0 old new start.taken at.taken to.taken gone (says.taken done);
+    taken = taken_then blocks options k start.place at.place to.place start.left at.left to.left c0 old new start.taken at.taken to.taken end gone says.given says.taken;
     read = λ fault. omega (arith, later, says.read fault);
   }
 
@@ -184,8 +195,8 @@ all_checked old new from to before after end first last start h =
       home = h.rests.home;
       named = h.named;
       same = h.rests.same;
-      taken = λ done. subst (λ (t : ℕ). Told from.left to.left (TakesAll old.taken t from.place)) last
-          (subst (λ (t : ℕ). Told from.left to.left (TakesAll t to.taken from.place)) first (counted.taken done));
+      taken = subst (λ (t : ℕ). Told from.left to.left (TakesTo old.blocks old.budget from.place old.taken t (ending_of end))) last
+          (subst (λ (t : ℕ). Told from.left to.left (TakesTo old.blocks old.budget from.place t to.taken (ending_of end))) first counted.taken);
       least = h.rests.least;
       pauses = h.rests.pauses;
       later = h.rests.later;

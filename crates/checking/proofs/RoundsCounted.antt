@@ -1,6 +1,6 @@
 -- Rounds that are counted, and how checking ends.
 use Rattle.std.proofs.Common.{◌≡◌, ◌+◌, ◌-◌, ◌^◌, ◌*◌, ◌<◌, ◌≤◌, inl, inr, ℕ, min, List, [], ◌∷◌, ◌++◌, Option, Some, None, refl, sym, ap, ◌∙◌, subst, length}
-use Rattle.std.proofs.Common.{map, arith, append_assoc, append-nil}
+use Rattle.std.proofs.Common.{length-append, map, arith, append_assoc, append-nil}
 use Rattle.std.specs.List.{AllByRecursion}
 use Rattle.std.proofs.lemmas.List.{length-map}
 use Rattle.off_io.specs.Told.{Told}
@@ -17,7 +17,7 @@ use Rattle.pcap_io.proofs.LengthLaws.{lengths_of_packets}
 use Rattle.maximal_runs.specs.Cut.{AllNeighbours}
 use Rattle.offload_model.specs.Captured.{AreCaptured, IsCaptured}
 use Rattle.offload_model.specs.Need.{needed, need_of, round_need}
-use Rattle.offload_model.specs.Passing.{Ending, Stopped, Nowhere, AtFault, AtRound, ReadFault, NoMemory, IsNoRound, Stop, stop_of}
+use Rattle.offload_model.specs.Passing.{Ending, Stopped, Nowhere, AtFault, AtRound, ReadFault, WriteFault, NoMemory, IsNoRound, Stop, stop_of}
 use Rattle.offload_model.specs.Steps.{ending_behind, in_front}
 use Rattle.offload_model.specs.Written.{Options}
 use Rattle.offload_model.proofs.Needs.{needed_append, needs_add}
@@ -32,7 +32,9 @@ use Rattle.check_totals.proofs.Bounds.{bounds_add, totals_are_few}
 use Rattle.check_totals.proofs.Summing.{added_assoc, added_none, lanes_stay}
 use Rattle.check_totals.proofs.Tallying.{totals_add_up, counting_goes_by_round}
 use Rattle.rounds.specs.Fresh.{NumberedFrom}
-use Rattle.rounds.specs.Merging.{TakesAll}
+use Rattle.rounds.specs.Merging.{TakesBehind, TakesTo}
+use Rattle.rounds.proofs.Merging.{both_told}
+use Rattle.rounds.proofs.Needs.{takes_on, StopsAt}
 use Rattle.rounds.specs.Reading.{GivesRound, Holds, Exceeds}
 use Rattle.reading.specs.Reading.{Passes as PassesRecords}
 use Rattle.rounds.specs.declared.round.RoundEnd.{RoundEnd}
@@ -55,6 +57,7 @@ ahead_none blocks options place a c taken =
       found = λ tail. refl;
       sum = sym (added_none c);
       took = omega arith;
+      size = omega arith;
     })
 
 module _ (blocks : ℕ) (options : Options) (k : ℕ) (p0 p1 p2 : Place) (a b c : Option (List ℕ)) (c0 c1 c2 : Counts) (t0 t1 t2 : ℕ) where
@@ -69,6 +72,7 @@ module _ (blocks : ℕ) (options : Options) (k : ℕ) (p0 p1 p2 : Place) (a b c 
     found = λ tail. ap (found_at p0) (append_assoc x.gone y.gone tail) ∙ x.found (y.gone ++ tail) ∙ ap (in_front x.packets) (y.found tail) ∙ (rw append_assoc refl);
     sum = y.sum ∙ ap (λ (s : Counts). added s y.counts) x.sum ∙ added_assoc c0 x.counts y.counts;
     took = omega (arith, x.took, y.took, needs_add x.packets y.packets);
+    size = omega (arith, x.size, y.size, length-append x.packets y.packets);
   }
 
   -- one round more
@@ -91,16 +95,27 @@ module _ (blocks : ℕ) (options : Options) (k : ℕ) (p0 p1 p2 : Place) (a b c 
       Told-then a b c (Ahead blocks options k p0 p1 c0 c1 t0 t1) (EndsBehind k blocks options p1 c1 c2 end) (Tallies (counting blocks options p0) c0 c2 (ending_of end))
       (λ bytes rest left x y. one_end end bytes rest left x y) first more
 
-  one_taken : (bytes rest left : List ℕ) → Ahead blocks options k p0 p1 c0 c1 t0 t1 bytes rest → TakesAll t1 t2 p1 rest left → TakesAll t0 t2 p0 bytes left
-  one_taken bytes rest left x y =
-      let found = ap (found_at p0) x.split ∙ x.found rest in
-      let n = ap (λ (f : Found). round_need f.packets) found ∙ needs_add x.packets (found_at p1 rest).packets in
-      omega (arith, x.took, y, n)
+  -- where the bytes stop it
+  stops_at : (ending : Ending) (bytes left : List ℕ) → Tallies (counting blocks options p0) c0 c2 ending bytes left → StopsAt blocks options.budget p0 bytes ending
+  stops_at (Stopped stop) bytes left tallies = tallies.0
+  stops_at ReadFault bytes left tallies = tt
+  stops_at WriteFault bytes left tallies = tt
+  stops_at NoMemory bytes left tallies = tt
+
+  one_taken : (end : CheckEnd) (bytes rest left : List ℕ) → Ahead blocks options k p0 p1 c0 c1 t0 t1 bytes rest
+      → EndsBehind k blocks options p1 c1 c2 end rest left × TakesBehind k p1 t1 t2 (ending_of end) rest left → TakesTo blocks options.budget p0 t0 t2 (ending_of end) bytes left
+  one_taken end bytes rest left x y =
+      takes_on blocks options.budget k p0 p1 t0 t1 t2 x.packets x.gone x.found x.took x.size (ending_of end) bytes rest left x.split
+      (stops_at (ending_of end) bytes left (one_end end bytes rest left x y.0)) y.1
 
   -- the blocks of all
-  pub taken_then : Told a b (Ahead blocks options k p0 p1 c0 c1 t0 t1) → Told b c (TakesAll t1 t2 p1) → Told a c (TakesAll t0 t2 p0)
-  taken_then first more =
-      Told-then a b c (Ahead blocks options k p0 p1 c0 c1 t0 t1) (TakesAll t1 t2 p1) (TakesAll t0 t2 p0) (λ bytes rest left x y. one_taken bytes rest left x y) first more
+  pub taken_then : (end : CheckEnd) → Told a b (Ahead blocks options k p0 p1 c0 c1 t0 t1) → Told b c (EndsBehind k blocks options p1 c1 c2 end) → Told b c (TakesBehind k p1 t1 t2 (ending_of end))
+      → Told a c (TakesTo blocks options.budget p0 t0 t2 (ending_of end))
+  taken_then end first more here =
+      Told-then a b c (Ahead blocks options k p0 p1 c0 c1 t0 t1) (λ rest left. EndsBehind k blocks options p1 c1 c2 end rest left × TakesBehind k p1 t1 t2 (ending_of end) rest left)
+      (TakesTo blocks options.budget p0 t0 t2 (ending_of end))
+      (λ bytes rest left x y. one_taken end bytes rest left x y) first
+      (both_told b c (EndsBehind k blocks options p1 c1 c2 end) (TakesBehind k p1 t1 t2 (ending_of end)) more here)
 
 -- ---- one round
 
@@ -234,11 +249,6 @@ module _ (blocks : ℕ) (options : Options) (from to : Place) (round : List Held
         (λ bytes left gives. exceeds_end need bytes left fewer lanes same gives)
         (subst (λ (e : RoundEnd). Told a b (GivesRound blocks from to round e)) is told)
 
-    pub memory_given : (end : RoundEnd) → end ≡ rounds.NoMemory → Told a b (GivesRound blocks from to round end) → Told a b (EndsBehind k blocks options from c c1 ends.NoMemory)
-    memory_given end is told =
-        Told-weaker a b Loses (EndsBehind k blocks options from c c1 ends.NoMemory) (λ bytes left loses. no_memory ends.NoMemory bytes left refl loses)
-        (subst (λ (e : RoundEnd). Told a b (GivesRound blocks from to round e)) is told)
-
     -- a full round was counted
     full_goes : (t t1 : ℕ) (bytes left : List ℕ) → length round ≡ options.budget → min (t + round_need packets) (2 ^ 64 - 1) ≤ t1 → c1 ≡ added c counts → PassesRecords from to packets bytes left
         → Ahead blocks options 1 from to c c1 t t1 bytes left
@@ -253,6 +263,7 @@ module _ (blocks : ℕ) (options : Options) (from to : Place) (round : List Held
       found = λ tail. (passes.2 tail).found;
       sum = sum;
       took = took;
+      size = omega (arith, full, length-map round packet_of);
     }
 
     pub full_given : (end : RoundEnd) (t t1 : ℕ) → end ≡ rounds.Full → length round ≡ options.budget → min (t + round_need packets) (2 ^ 64 - 1) ≤ t1 → c1 ≡ added c counts

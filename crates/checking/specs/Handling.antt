@@ -42,6 +42,7 @@ CountsRound old new round k (read_ends.Malformed fault) (Some end) = CountsLast 
 CountsRound old new round k read_ends.ReadFault (Some end) = CountsLast old new round ends.ReadFault end
 CountsRound old new round k (read_ends.PoolEmpty need) (Some end) = (end ≡ ends.PoolEmpty k need) × (new ≡ old)
 CountsRound old new round k read_ends.NoMemory (Some end) = end ≡ ends.NoMemory
+CountsRound old new round k read_ends.GivenUp (Some end) = end ≡ ends.NoMemory
 CountsRound old new round k _ None = ⊥
 
 -- ---- rounds
@@ -58,6 +59,7 @@ pub record Ahead (blocks : ℕ) (options : Options) (k : ℕ) (from to : Place) 
   pub found : (tail : List ℕ) → found_at from (gone ++ tail) ≡ in_front packets (found_at to tail)
   pub sum : new ≡ added old counts
   pub took : min (before + round_need packets) (2 ^ 64 - 1) ≤ now
+  pub size : length packets ≡ k * options.budget
 
 -- from here on checking ends so, behind k rounds
 abbrev pub EndsBehind : ℕ → ℕ → Options → Place → Counts → Counts → CheckEnd → List ℕ → List ℕ → Type 0

@@ -7,7 +7,7 @@ use Rattle.check_totals.specs.Counts.{Counts, HasLanes, IsWithin}
 use Rattle.check_totals.specs.Checking.{counting}
 use Rattle.check_totals.specs.Tallies.{Tallies}
 use Rattle.rounds.specs.Handled.{FewPauses}
-use Rattle.rounds.specs.Merging.{options_of, TakesAll}
+use Rattle.rounds.specs.Merging.{options_of, TakesTo}
 use Rattle.rounds.specs.RoundsState.{RoundsState}
 use Rattle.rounds.specs.Reads.{Spot}
 use Rattle.checking.specs.declared.capture.CheckEnd.{CheckEnd}
@@ -23,7 +23,8 @@ pub record Checked (old new : RoundsState) (from to : Spot) (before after : Coun
   pub home : new.home ≡ new.blocks
   pub named : (h : ℕ → ℕ) → weighed h new.stock ≡ weighed h old.stock
   pub same : (new.blocks ≡ old.blocks) × (options_of new ≡ options_of old) × (new.keep ≡ old.keep)
-  pub taken : end ≡ ends.Done → Told from.left to.left (TakesAll old.taken new.taken from.place)
+  pub taken : Told from.left to.left
+      (TakesTo old.blocks old.budget from.place old.taken new.taken (ending_of end))
   pub least : old.taken ≤ new.taken
   pub pauses : FewPauses old.empties old.pauses new.empties new.pauses
   pub later : from.faults ≤ to.faults

@@ -5,9 +5,8 @@ ghost use Rattle.off_io.specs.Faults.{Rose};
 ghost use Rattle.off_io.specs.Told.{Told};
 ghost use Rattle.pcap_io.specs.declared.heads.Link.TheVariants.{Ethernet};
 ghost use Rattle.pcap_io.specs.Capture.{Packet};
-ghost use Rattle.pcap_io.specs.Places.{IsReady, found_at};
+ghost use Rattle.pcap_io.specs.Places.{IsReady};
 ghost use Rattle.pcap_io.specs.Readers.{place_of, source_of, SameLoan};
-ghost use Rattle.offload_model.specs.Need.{round_need};
 ghost use Rattle.gro.specs.Slots.{packet_of};
 ghost use Rattle.checking.specs.Compared.{compared_work, MayCompareWork};
 ghost use Rattle.check_totals.specs.Counts.{added, round_totals, totals_of, HasLanes, IsWithin};
@@ -15,7 +14,7 @@ ghost use Rattle.check_totals.specs.Checking.{counting};
 ghost use Rattle.check_totals.specs.Tallies.{Tallies};
 ghost use Rattle.rounds.specs.Benches.{options_at, Brings, MayBring};
 ghost use Rattle.rounds.specs.Lanes.{IsKeptWorkOf};
-ghost use Rattle.rounds.specs.Merging.{options_of};
+ghost use Rattle.rounds.specs.Merging.{options_of, TakesTo};
 ghost use Rattle.rounds.specs.Weights.{weights_worked};
 ghost use Rattle.checking.specs.Handling.{ending_of, CountsLast, IsCounted, MayCount};
 
@@ -152,7 +151,7 @@ impl RoundHandler<Totals, CheckEnd> for Counting {
                     need,
                 })
             }
-            RoundEnd::NoMemory => {
+            RoundEnd::NoMemory | RoundEnd::GivenUp => {
                 bench.drop_round(round, home);
                 Some(CheckEnd::NoMemory)
             }
@@ -191,9 +190,9 @@ pub fn check_all<W: Works, S: Source>(
     ensures named { (h : ℕ → ℕ) → weighed h rounds.new.stock ≡ weighed h rounds.old.stock }
     ensures same { (rounds.new.blocks ≡ rounds.old.blocks) × (options_of rounds.new ≡ options_of rounds.old)
         × (rounds.new.keep ≡ rounds.old.keep) }
-    ensures taken { result ≡ CheckEnd.Done → Told (S.left (source_of reader.old)) (S.left (source_of reader.new))
-        (λ bytes left. min (rounds.old.taken + round_need (found_at (place_of reader.old) bytes).packets) (2 ^ 64 - 1)
-        ≤ rounds.new.taken) }
+    ensures taken { Told (S.left (source_of reader.old)) (S.left (source_of reader.new))
+        (TakesTo rounds.old.blocks rounds.old.budget (place_of reader.old) rounds.old.taken rounds.new.taken
+        (ending_of result)) }
     ensures least { rounds.old.taken ≤ rounds.new.taken }
     ensures pauses { (rounds.old.pauses ≤ rounds.new.pauses)
         × (min (rounds.old.empties + (rounds.new.pauses - rounds.old.pauses)) (2 ^ 64 - 1) ≤ rounds.new.empties) }

@@ -17,13 +17,6 @@ const LOOKS: u32 = 16;
 const MOST_LISTS: u32 = 219;
 
 impl<W: Post + Drop> Desk<W> {
-    // Whether the other side has stopped: what it gave before that is found by the next look for a list.
-    fn ask_end(&mut self)
-        ensures same { self.new.taker ≡ self.old.taker }
-    {
-        self.stopped |= self.post.has_ended();
-    }
-
     // The memory of a list goes away with a round again, once its blocks are home.
     fn keep_spent(&mut self)
         ensures sum { brought_to self.new ≡ brought_to self.old }
@@ -60,7 +53,7 @@ impl<W: Post + Drop> Desk<W> {
     {
         for turn in 0..u64::MAX {
             self.ask_end();
-            if self.meet_list(pool) || self.stopped {
+            if self.meet_list(pool) || self.has_stopped() {
                 self.post.end_wait();
                 return;
             }
@@ -89,7 +82,7 @@ impl<W: Post + Drop> Desk<W> {
             if pool.home() >= need {
                 return;
             }
-            if !self.stopped && (self.paused || self.away.may_bring()) {
+            if !self.has_stopped() && (self.paused || self.away.may_bring()) {
                 self.await_list(pool);
             } else if !self.meet_list(pool) {
                 self.paused = true;
@@ -132,13 +125,14 @@ fn pause() {
 }
 
 impl<W: Post + Drop> Supply for Desk<W> {
+    ghost use Rattle.std.specs.Prelude.{is_some};
     ghost use Rattle.crossing.specs.Desks.{weights_to};
 
     ghost weights = { weights_to };
 
     ghost refusals = { λ d. d.taker.pass.empties };
 
-    ghost ended = { λ d. d.stopped };
+    ghost ended = { λ d. is_some d.stopped };
 
     /// Behind a no that paused a round it waits, and says no again only where the other side has stopped.
     fn bring(&mut self, pool: &mut Pool, need: u32) -> bool {
@@ -152,6 +146,6 @@ impl<W: Post + Drop> Supply for Desk<W> {
     }
 
     fn has_ended(&self) -> bool {
-        self.stopped
+        self.has_stopped()
     }
 }

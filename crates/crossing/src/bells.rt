@@ -18,6 +18,13 @@ pub struct Bells {
     ended: AtomicBool,
 }
 
+/// The side that works has ended. Only the flag that it set says so: nobody else makes one.
+#[derive(Clone, Copy)]
+pub struct Ended {
+    // What keeps others from making one.
+    _said: (),
+}
+
 /// The times that the worker yields to a reader that hasn't begun: a third of a second, beyond any delay of a thread
 /// that was made.
 const PATIENCE: u32 = 1_000_000;
@@ -54,8 +61,11 @@ impl Bells {
         self.reader.wake();
     }
 
-    /// Whether the side that works has ended. What it gave before is in the pool of lists then.
-    pub fn has_ended(&self) -> bool {
-        self.ended.load(Ordering::SeqCst)
+    /// That the side that works has ended, if it has. What it gave before is in the pool of lists then.
+    pub fn has_ended(&self) -> Option<Ended> {
+        if self.ended.load(Ordering::SeqCst) {
+            return Some(Ended { _said: () });
+        }
+        None
     }
 }

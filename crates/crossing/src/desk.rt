@@ -1,8 +1,9 @@
 //! The desk of the side that reads: lists come in here, and their blocks go home.
-ghost use Rattle.std.specs.Prelude.{◌≡◌, ◌≤◌};
+ghost use Rattle.std.specs.Prelude.{◌≡◌, ◌≤◌, is_some};
 ghost use Rattle.std.specs.Arc.{arc_value};
 ghost use Rattle.rtrb.specs.Ring.{sent, SameProducer};
 
+use crate::bells::Ended;
 use crate::lent::Away;
 use crate::post::Post;
 use crate::ring::has_place;
@@ -33,8 +34,8 @@ pub struct Desk<W: Post + Drop> {
     pub(crate) away: Away,
     /// Set as a round is paused for want of blocks, until it goes away.
     pub(crate) paused: bool,
-    /// Set once the other side has said so, and never taken back.
-    pub(crate) stopped: bool,
+    /// There once the other side has said so, and never taken back.
+    pub(crate) stopped: Option<Ended>,
     /// The pool of lists is the one that contracts of the whole run name.
     pub ghost pooled: { arc_value taker.lists ≡ W.lists },
 }
@@ -63,7 +64,7 @@ impl<W: Post + Drop> Desk<W> {
             taker,
             away,
             paused: false,
-            stopped: false,
+            stopped: None,
         }
     }
 
@@ -93,9 +94,20 @@ impl<W: Post + Drop> Desk<W> {
         self.post.wake();
     }
 
-    /// Whether the other side takes no more rounds.
-    pub fn has_stopped(&self) -> bool {
-        self.stopped
+    /// Whether the other side takes no more rounds: only where it has said so.
+    pub fn has_stopped(&self) -> bool
+        ensures stopped { result ≡ is_some self.now.stopped }
+    {
+        self.stopped.is_some()
+    }
+
+    // Whether the other side has stopped: what it gave before that is found by the next look for a list.
+    pub(crate) fn ask_end(&mut self)
+        ensures same { self.new.taker ≡ self.old.taker }
+    {
+        if self.stopped.is_none() {
+            self.stopped = self.post.has_ended();
+        }
     }
 
     /// Waits until there is a place for a round, or the other side has stopped.
@@ -105,8 +117,8 @@ impl<W: Post + Drop> Desk<W> {
         ensures same { self.new.taker ≡ self.old.taker }
     {
         for _ in 0..u64::MAX {
-            self.stopped |= self.post.has_ended();
-            if self.stopped || has_place(ring) {
+            self.ask_end();
+            if self.has_stopped() || has_place(ring) {
                 return;
             }
             self.post.sleep();

@@ -19,8 +19,9 @@
 //! Proved: what was sent by a ring, item by item (`sent` of [`send`]); no block is lost at the desk, also by the names
 //! of blocks (`meets` of its calls, `Meets` of `specs/Desks.antt`): what is home and what hasn't come home of lists is
 //! what it was. As a supply the desk says yes only where as many blocks are home as are needed, and no only behind a
-//! take that found no list (`enough` and `refused` of `bring`, `looked` of `look`). Not proved: that a thread that
-//! waits is woken.
+//! take that found no list (`enough` and `refused` of `bring`, `looked` of `look`). It says that the other side has
+//! ended only where it has that from the flag which this side sets, as an [`Ended`] (`stopped` of
+//! [`Desk::has_stopped`]). Not proved: that a thread that waits is woken.
 //!
 //! ```
 //! let (mut out, mut from) = RingBuffer::new(alloc, IN_RING)?;
@@ -61,7 +62,7 @@ mod post;
 mod ring;
 mod way;
 
-pub use bells::Bells;
+pub use bells::{Bells, Ended};
 pub use desk::{Desk, IN_RING, ROUNDS, new_spent};
 pub use lent::Away;
 pub use naming::Naming;

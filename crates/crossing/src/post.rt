@@ -5,7 +5,7 @@ ghost use Rattle.block_pool.specs.PassState.{SharedState};
 ghost use Rattle.block_pool.specs.PoolState.{home, weighed};
 ghost use Rattle.block_supply.specs.Lists.{listed_home, weights_home};
 
-use crate::bells::Bells;
+use crate::bells::{Bells, Ended};
 use crate::naming::Naming;
 use block_pool::Pool;
 use block_supply::Taker;
@@ -19,8 +19,8 @@ pub trait Post {
     /// Whether the side that reads may begin.
     fn begin(&self) -> bool;
 
-    /// Whether the other side takes no more rounds.
-    fn has_ended(&self) -> bool;
+    /// That the other side takes no more rounds, if it has said so.
+    fn has_ended(&self) -> Option<Ended>;
 
     /// Whether a list has come: its blocks are home then, as far as there are places. Where blocks are out it says no
     /// only behind a take that found none.
@@ -82,7 +82,7 @@ impl<R: Wait, N: Naming> Post for Sleeper<'_, R, N> {
         self.bells.begin()
     }
 
-    fn has_ended(&self) -> bool {
+    fn has_ended(&self) -> Option<Ended> {
         self.bells.has_ended()
     }
 

@@ -12,6 +12,7 @@ ghost use Rattle.offload_model.specs.Passing.{merging, Passes, PrefixUnless, flu
 ghost use Rattle.offload_words.specs.declared.words.Command.TheVariants.{Merge};
 ghost use Rattle.offload_words.specs.Merge.{IsInRange};
 ghost use Rattle.rounds.specs.Merging.{ending_of as merge_ending, options_of as rounds_options, HoldsCaptured};
+ghost use Rattle.rounds.specs.Merging.{TakesTo};
 ghost use Rattle.command_answers.specs.RunAnswers.{HasAnswered};
 ghost use Rattle.command_answers.specs.Ending.{ending_of, Ends, FlushesAt, HasBlocks, IsCaused, OfRead};
 ghost use Rattle.merge_command.specs.Statuses.{status_by};
@@ -77,9 +78,8 @@ fn merge_behind<R: Threads + Wait + Sync, S: Source + Send, K: Sink, G: Gate + S
     ensures home { rounds.new.home ≡ rounds.new.blocks }
     ensures named { (h : ℕ → ℕ) → weighed h rounds.new.stock ≡ weighed h rounds.old.stock }
     ensures same { rounds.new.blocks ≡ rounds.old.blocks }
-    ensures taken { result ≡ MergeEnd.Done → Told (S.left source.old) (S.left source.new)
-        (λ rest left. min (rounds.old.taken + round_need (found_at (first_place file Ethernet 0) rest).packets)
-        (2 ^ 64 - 1) ≤ rounds.new.taken) }
+    ensures taken { Told (S.left source.old) (S.left source.new) (TakesTo rounds.old.blocks rounds.old.budget
+        (first_place file Ethernet 0) rounds.old.taken rounds.new.taken (merge_ending result)) }
     ensures later { S.faults source.old ≤ S.faults source.new }
     ensures later_sink { K.faults sink.old ≤ K.faults sink.new }
     ensures read { result ≡ MergeEnd.ReadFault → Rose (S.faults source.old) (S.faults source.new) }

@@ -4,12 +4,11 @@ ghost use Rattle.block_pool.specs.PoolState.{weighed};
 ghost use Rattle.off_io.specs.Content.{SaysFlushed};
 ghost use Rattle.off_io.specs.Faults.{Rose};
 ghost use Rattle.off_io.specs.Told.{Told};
-ghost use Rattle.offload_model.specs.Need.{round_need};
 ghost use Rattle.offload_model.specs.Passing.{merging, Passes, PrefixUnless, flushes};
 ghost use Rattle.pcap_io.specs.declared.heads.Link.TheVariants.{Ethernet};
-ghost use Rattle.pcap_io.specs.Places.{IsReady, found_at};
+ghost use Rattle.pcap_io.specs.Places.{IsReady};
 ghost use Rattle.pcap_io.specs.Readers.{place_of, source_of, SameLoan};
-ghost use Rattle.rounds.specs.Merging.{ending_of, options_of, HoldsCaptured};
+ghost use Rattle.rounds.specs.Merging.{ending_of, options_of, HoldsCaptured, TakesTo};
 
 use crate::crewed::handle_beside;
 use off_io::{Gate, Sink, Source};
@@ -48,9 +47,9 @@ pub fn merge_beside<R: Threads + Wait + Sync, S: Source + Send, K: Sink, G: Gate
     ensures named { (h : ℕ → ℕ) → weighed h rounds.new.stock ≡ weighed h rounds.old.stock }
     ensures same { (rounds.new.blocks ≡ rounds.old.blocks) × (options_of rounds.new ≡ options_of rounds.old)
         × (rounds.new.keep ≡ rounds.old.keep) }
-    ensures taken { result ≡ MergeEnd.Done → Told (S.left (source_of reader.old)) (S.left (source_of reader.new))
-        (λ bytes left. min (rounds.old.taken + round_need (found_at (place_of reader.old) bytes).packets) (2 ^ 64 - 1)
-        ≤ rounds.new.taken) }
+    ensures taken { Told (S.left (source_of reader.old)) (S.left (source_of reader.new))
+        (TakesTo rounds.old.blocks rounds.old.budget (place_of reader.old) rounds.old.taken rounds.new.taken
+        (ending_of result)) }
     ensures least { rounds.old.taken ≤ rounds.new.taken }
     ensures pauses { (rounds.old.pauses ≤ rounds.new.pauses)
         × (min (rounds.old.empties + (rounds.new.pauses - rounds.old.pauses)) (2 ^ 64 - 1) ≤ rounds.new.empties) }

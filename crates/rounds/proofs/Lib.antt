@@ -28,6 +28,8 @@ pub mod Lending
 pub mod Rows
 -- rounds that were handled one after another
 pub mod Going
+-- as many blocks were taken as packets need
+pub mod Needs
 -- rounds that are merged
 pub mod Merging
 -- what is written of them one after another, and how merging ends

@@ -33,7 +33,8 @@ use Rattle.gro.specs.Slots.{packet_of}
 use Rattle.reading.specs.Reading.{in_front, Passes as PassesRecords}
 use Rattle.rounds.specs.Reading.{GivesRound, Holds, Exceeds}
 use Rattle.rounds.specs.RoundsState.{RoundsState}
-use Rattle.rounds.specs.Merging.{ending_of, options_of, Fails, WritesLast, Ahead, EndsBehind, TakesAll, AreCapturedAt, EndsCaptured, HoldsCaptured}
+use Rattle.rounds.specs.Merging.{ending_of, options_of, Fails, WritesLast, Ahead, EndsBehind, TakesBehind, TakesTo, AreCapturedAt, EndsCaptured, HoldsCaptured}
+use Rattle.rounds.proofs.Needs.{rounds_before, takes_on, StopsAt}
 use Rattle.rounds.specs.declared.round.RoundEnd.{RoundEnd}
 use Rattle.rounds.specs.declared.round.RoundEnd.TheVariants as rounds
 use Rattle.rounds.specs.declared.merge.MergeEnd.{MergeEnd}
@@ -45,6 +46,12 @@ use Rattle.rounds.specs.declared.merge.MergeEnd.TheVariants as ends
 pub finished : (h h1 h2 : Option (List ℕ)) (bytes : List ℕ) (end result : MergeEnd) → Appends h h1 bytes → (result ≡ end) ⊎ (result ≡ ends.WriteFault) → Keeps h1 h2 → WritesLast h h2 bytes end result
 finished h h1 h2 bytes end result wrote (inl e) kept = inl (e, Appends-kept h h1 h2 bytes wrote kept)
 finished h h1 h2 bytes end result wrote (inr e) kept = inr (inl (e, prefix_whole h h2 bytes (Appends-kept h h1 h2 bytes wrote kept)))
+
+-- both of two facts are told
+pub both_told : (a b : Option (List ℕ)) (P Q : List ℕ → List ℕ → Type 0) → Told a b P → Told a b Q → Told a b (λ x y. P x y × Q x y)
+both_told None b P Q p q = tt
+both_told (Some x) None P Q p q = absurd p
+both_told (Some x) (Some y) P Q p q = (p, q)
 
 -- ---- rounds in a row
 
@@ -114,52 +121,33 @@ module _ (blocks : ℕ) (options : Options) (k : ℕ) (p0 p1 p2 : Place) (a b c 
       inr (Told-then a b c (Ahead blocks options k p0 p1 h h1 t0 t1) (WritesPrefix (merging blocks options p1) h1 h2) (WritesPrefix (merging blocks options p0) h h2)
       (λ bytes rest left x y. one_front bytes rest left x y) first told)
 
-  one_taken : (bytes rest left : List ℕ) → Ahead blocks options k p0 p1 h h1 t0 t1 bytes rest → TakesAll t1 t2 p1 rest left → TakesAll t0 t2 p0 bytes left
-  one_taken bytes rest left x y =
-      let found = ap (found_at p0) x.split ∙ x.found rest in
-      let n = ap (λ (f : Found). round_need f.packets) found ∙ needs_add x.packets (found_at p1 rest).packets in
-      omega (arith, x.took, y, n)
+  -- where the bytes stop it
+  stops_at : (ending : Ending) (bytes left : List ℕ) → Passes (merging blocks options p0) h h2 ending bytes left → StopsAt blocks options.budget p0 bytes ending
+  stops_at (Stopped stop) bytes left passes = passes.0
+  stops_at ReadFault bytes left passes = tt
+  stops_at WriteFault bytes left passes = tt
+  stops_at NoMemory bytes left passes = tt
+
+  one_taken : (end : MergeEnd) (bytes rest left : List ℕ) → Ahead blocks options k p0 p1 h h1 t0 t1 bytes rest
+      → EndsBehind k blocks options p1 h1 h2 end rest left × TakesBehind k p1 t1 t2 (ending_of end) rest left → TakesTo blocks options.budget p0 t0 t2 (ending_of end) bytes left
+  one_taken end bytes rest left x y =
+      takes_on blocks options.budget k p0 p1 t0 t1 t2 x.packets x.gone x.found x.took x.size (ending_of end) bytes rest left x.split
+      (stops_at (ending_of end) bytes left (one_end end bytes rest left x y.0)) y.1
 
   -- the blocks of all
-  pub taken_then : Told a b (Ahead blocks options k p0 p1 h h1 t0 t1) → Told b c (TakesAll t1 t2 p1) → Told a c (TakesAll t0 t2 p0)
-  taken_then first more =
-      Told-then a b c (Ahead blocks options k p0 p1 h h1 t0 t1) (TakesAll t1 t2 p1) (TakesAll t0 t2 p0) (λ bytes rest left x y. one_taken bytes rest left x y) first more
+  pub taken_then : (end : MergeEnd) → Told a b (Ahead blocks options k p0 p1 h h1 t0 t1) → Told b c (EndsBehind k blocks options p1 h1 h2 end) → Told b c (TakesBehind k p1 t1 t2 (ending_of end))
+      → Told a c (TakesTo blocks options.budget p0 t0 t2 (ending_of end))
+  taken_then end first more here =
+      Told-then a b c (Ahead blocks options k p0 p1 h h1 t0 t1) (λ rest left. EndsBehind k blocks options p1 h1 h2 end rest left × TakesBehind k p1 t1 t2 (ending_of end) rest left)
+      (TakesTo blocks options.budget p0 t0 t2 (ending_of end))
+      (λ bytes rest left x y. one_taken end bytes rest left x y) first
+      (both_told b c (EndsBehind k blocks options p1 h1 h2 end) (TakesBehind k p1 t1 t2 (ending_of end)) more here)
 
 -- ---- packets as a capture may hold them
-
--- both of two facts are told
-both_told : (a b : Option (List ℕ)) (P Q : List ℕ → List ℕ → Type 0) → Told a b P → Told a b Q → Told a b (λ x y. P x y × Q x y)
-both_told None b P Q p q = tt
-both_told (Some x) None P Q p q = absurd p
-both_told (Some x) (Some y) P Q p q = (p, q)
 
 captured_before : (budget : ℕ) (exceeded : Option (ℕ × ℕ)) (found : Found) → AllByRecursion IsCaptured found.packets → AllByRecursion IsCaptured (found_before budget exceeded found).packets
 captured_before budget None found c = c
 captured_before budget (Some at) found c = all_taken IsCaptured (at.0 * budget) found.packets c
-
--- the number of the round that exceeds the blocks, and whether there is one
-abbrev round_in : Stop → ℕ
-round_in (AtRound round need) = round
-round_in _ = 0
-
-abbrev is_round : Stop → Bool
-is_round (AtRound round need) = true
-is_round _ = false
-
-not_round : (fault : Option CapFault) (round need : ℕ) (X : Type 0) → stop_of fault None ≡ AtRound round need → X
-not_round None round need X e = absurd (false≢true (ap is_round e))
-not_round (Some fault) round need X e = absurd (false≢true (ap is_round e))
-
--- the packets before the round that exceeds the blocks are those of the rounds before
-rounds_before : (budget k round need : ℕ) (packets : List Packet) (exceeded : Option (ℕ × ℕ)) (found rest : Found) → stop_of (found_before budget exceeded found).fault exceeded ≡ AtRound round need
-    → round ≡ k
-    → found ≡ in_front packets rest → length packets ≡ k * budget → AllByRecursion IsCaptured packets → AllByRecursion IsCaptured (found_before budget exceeded found).packets
-rounds_before budget k round need packets None found rest stops is e size each = not_round found.fault round need _ stops
-rounds_before budget k round need packets (Some at) found rest stops is e size each =
-    let at_k : at.0 ≡ k = ap round_in stops ∙ is in
-    let n : length packets ≡ at.0 * budget = size ∙ ap (λ (m : ℕ). m * budget) (sym at_k) in
-    let front : take (at.0 * budget) found.packets ≡ packets = ap (λ (f : Found). take (at.0 * budget) f.packets) e ∙ take_at packets rest.packets (at.0 * budget) n in
-    subst (AllByRecursion IsCaptured) (sym front) each
 
 module _ (blocks : ℕ) (options : Options) (k : ℕ) (p0 p1 p2 : Place) (a b c h h1 h2 : Option (List ℕ)) (t0 t1 t2 : ℕ) where
   -- packets that are captured, behind others that are
@@ -181,8 +169,8 @@ module _ (blocks : ℕ) (options : Options) (k : ℕ) (p0 p1 p2 : Place) (a b c 
   one_captured (ends.Malformed fault) bytes rest left x y = captured_whole bytes rest x y.1
   one_captured (ends.PoolEmpty round need) bytes rest left x y =
       let passes = one_end blocks options k p0 p1 p2 a b c h h1 h2 t0 t1 t2 (ends.PoolEmpty round need) bytes rest left x y.0 in
-      rounds_before options.budget k round need x.packets (exceeded_at blocks options.budget p0 bytes) (found_at p0 bytes) (found_at p1 rest) passes.0 y.1
-      (ap (found_at p0) x.split ∙ x.found rest) x.size x.each
+      subst (AllByRecursion IsCaptured) (sym (rounds_before options.budget k round need x.packets (exceeded_at blocks options.budget p0 bytes) (found_at p0 bytes) (found_at p1 rest) passes.0 y.1
+      (ap (found_at p0) x.split ∙ x.found rest) x.size)) x.each
   one_captured ends.ReadFault bytes rest left x y = (
     x.gone ++ y.1.0,
     x.split ∙ ap (λ (l : List ℕ). x.gone ++ l) y.1.1 ∙ sym (append_assoc x.gone y.1.0 left),
@@ -410,15 +398,24 @@ module _ (blocks : ℕ) (state : RoundsState) (file : FileHead) (from to : Place
         Told-weaker a b (GivesRound blocks from to round rounds.Full) (Ahead blocks (options_of state) 1 from to h h1 t t1)
         (λ bytes left gives. full_goes t t1 bytes left full same took wrote each gives) told
 
--- as many blocks were taken as the last packets need
-pub done_taken : (blocks t t1 : ℕ) (from to : Place) (round : List Held) (a b : Option (List ℕ)) (end : RoundEnd) → end ≡ rounds.End → min (t + round_need (map packet_of round)) (2 ^ 64 - 1) ≤ t1
-    → Told a b (GivesRound blocks from to round end) → Told a b (TakesAll t t1 from)
-done_taken blocks t t1 from to round a b end is took told =
-    Told-weaker a b (GivesRound blocks from to round rounds.End) (TakesAll t t1 from)
-    (λ bytes left gives.
-    let n = ap (λ (f : Found). round_need f.packets) gives.0 ∙ ap round_need (append-nil (map packet_of round)) in
-    omega (arith, took, n))
-    (subst (λ (e : RoundEnd). Told a b (GivesRound blocks from to round e)) is told)
+-- of an end by a failed write or for want of memory nothing is said of the blocks that were taken
+pub cut_taken : (k t t1 : ℕ) (place : Place) (end : MergeEnd) (bytes left : List ℕ) → (end ≡ ends.WriteFault) ⊎ (end ≡ ends.NoMemory) → TakesBehind k place t t1 (ending_of end) bytes left
+cut_taken k t t1 place end bytes left (inl e) = subst (λ (x : MergeEnd). TakesBehind k place t t1 (ending_of x) bytes left) (sym e) tt
+cut_taken k t t1 place end bytes left (inr e) = subst (λ (x : MergeEnd). TakesBehind k place t t1 (ending_of x) bytes left) (sym e) tt
+
+-- as many were as the packets of the last round need
+pub last_taken : (k t t1 : ℕ) (place : Place) (h h1 : Option (List ℕ)) (output : List ℕ) (end result : MergeEnd) (a b : Option (List ℕ)) → WritesLast h h1 output end result
+    → Told a b (TakesBehind k place t t1 (ending_of end)) → Told a b (TakesBehind k place t t1 (ending_of result))
+last_taken k t t1 place h h1 output end result a b (inl w) told = subst (λ (x : MergeEnd). Told a b (TakesBehind k place t t1 (ending_of x))) (sym w.0) told
+last_taken k t t1 place h h1 output end result a b (inr f) told =
+    Told-weaker a b (TakesBehind k place t t1 (ending_of end)) (TakesBehind k place t t1 (ending_of result)) (λ bytes left _. cut_taken k t t1 place result bytes left (cut_by h h1 output result f)) told
+
+-- and of one that exceeds the blocks
+pub empty_taken : (k t t1 need : ℕ) (place : Place) (result : MergeEnd) (a b : Option (List ℕ)) → (result ≡ ends.PoolEmpty k need) ⊎ (result ≡ ends.WriteFault)
+    → Told a b (TakesBehind k place t t1 (Stopped (AtRound k need))) → Told a b (TakesBehind k place t t1 (ending_of result))
+empty_taken k t t1 need place result a b (inl e) told = subst (λ (x : MergeEnd). Told a b (TakesBehind k place t t1 (ending_of x))) (sym e) told
+empty_taken k t t1 need place result a b (inr e) told =
+    Told-weaker a b (TakesBehind k place t t1 (Stopped (AtRound k need))) (TakesBehind k place t t1 (ending_of result)) (λ bytes left _. cut_taken k t t1 place result bytes left (inl e)) told
 
 -- whether a round's end tells that it has fewer packets than it may have
 abbrev pub is_short : RoundEnd → Bool

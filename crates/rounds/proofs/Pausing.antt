@@ -71,6 +71,22 @@ is_fault _ = false
 pub no_memory_fault : ends.NoMemory ≡ ends.ReadFault → ⊥
 no_memory_fault e = false≢true (ap is_fault e)
 
+abbrev is_given_up : RoundEnd → Bool
+is_given_up ends.GivenUp = true
+is_given_up _ = false
+
+given_up_full : ends.GivenUp ≡ ends.Full → ⊥
+given_up_full e = false≢true (ap is_full e)
+
+given_up_fault : ends.GivenUp ≡ ends.ReadFault → ⊥
+given_up_fault e = false≢true (ap is_fault e)
+
+pub full_goes : Ended ends.Full ≡ Ended ends.GivenUp → ⊥
+full_goes e = false≢true (ap (λ (h : Halt). is_given_up (end_in h)) e)
+
+pub no_memory_goes : ends.NoMemory ≡ ends.GivenUp → ⊥
+no_memory_goes e = false≢true (ap is_given_up e)
+
 pub lacking_full : Lacking ≡ Ended ends.Full → ⊥
 lacking_full e = false≢true (sym (ap is_lacking e))
 
@@ -104,6 +120,18 @@ halt_full stops.ReadFault halt is full = not_full ends.ReadFault halt refl is fu
 halt_full stops.NoMemory halt is full = not_full ends.NoMemory halt refl is full
 halt_full stops.Lacking halt is full = ended_lacking ends.Full halt full is
 
+not_given_up : (end : RoundEnd) (halt : Halt) → is_given_up end ≡ false → halt ≡ Ended end → halt ≡ Ended ends.GivenUp → ⊥
+not_given_up end halt isnt is up = false≢true (sym isnt ∙ ap is_given_up (ended_same end ends.GivenUp (sym is ∙ up)))
+
+-- nor of one that is given up
+pub halt_goes : (stop : Stop) (halt : Halt) → IsHaltOf stop halt → halt ≡ Ended ends.GivenUp → ⊥
+halt_goes stops.End halt is up = not_given_up ends.End halt refl is up
+halt_goes (stops.Malformed fault) halt is up = not_given_up (ends.Malformed fault) halt refl is up
+halt_goes (stops.PoolEmpty need) halt is up = not_given_up (ends.PoolEmpty need) halt refl is up
+halt_goes stops.ReadFault halt is up = not_given_up ends.ReadFault halt refl is up
+halt_goes stops.NoMemory halt is up = not_given_up ends.NoMemory halt refl is up
+halt_goes stops.Lacking halt is up = ended_lacking ends.GivenUp halt up is
+
 -- a read fault is one
 pub halt_fault : (stop : Stop) (halt : Halt) → IsHaltOf stop halt → halt ≡ Ended ends.ReadFault → stop ≡ stops.ReadFault
 halt_fault stops.End halt is fault = absurd (not_fault ends.End halt refl is fault)
@@ -127,6 +155,9 @@ ended_by stops.Lacking end is = absurd is
 
 pub end_full : (stop : Stop) (end : RoundEnd) → IsEndOf stop end → end ≡ ends.Full → ⊥
 end_full stop end is full = halt_full stop (Ended end) (ended_by stop end is) (ap Ended full)
+
+pub end_goes : (stop : Stop) (end : RoundEnd) → IsEndOf stop end → end ≡ ends.GivenUp → ⊥
+end_goes stop end is up = halt_goes stop (Ended end) (ended_by stop end is) (ap Ended up)
 
 pub end_fault : (stop : Stop) (end : RoundEnd) → IsEndOf stop end → end ≡ ends.ReadFault → stop ≡ stops.ReadFault
 end_fault stop end is fault = halt_fault stop (Ended end) (ended_by stop end is) (ap Ended fault)
@@ -329,6 +360,21 @@ unread_behind blocks budget from head first round same fewer = record {
   later = omega arith;
   failed = λ fault. absurd (no_memory_fault fault);
 }
+
+-- nor is any of a round that is given up
+pub given_up_behind : (blocks budget : ℕ) (from : Reached) (head : RecHead) (first round : List Held) → round ≡ first → length first < budget
+    → FillsBehind blocks budget from from head first round ends.GivenUp
+given_up_behind blocks budget from head first round same fewer =
+    let f = unread_behind blocks budget from head first round same fewer in
+    record {
+      given = f.given;
+      size = f.size;
+      fewer = λ not_full. f.fewer no_memory_full;
+      full = λ full. absurd (given_up_full full);
+      numbers = f.numbers;
+      later = f.later;
+      failed = λ fault. absurd (given_up_fault fault);
+    }
 
 pub fills_behind : (at mid new : Place) (first qs round : List Held) (p : Held) (budget : ℕ) → qs ≡ first ++ p ∷ [] → GoesOn at mid → FillsRound mid new qs round budget
     → FillsRound at new first round budget

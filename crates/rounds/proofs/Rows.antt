@@ -42,6 +42,7 @@ module _ (blocks budget : ℕ) where
   round_loses from to round (ends.PoolEmpty need) bytes left gives = gives.1.1.3
   round_loses from to round ends.ReadFault bytes left gives = (gives.0, gives.1)
   round_loses from to round ends.NoMemory bytes left gives = gives
+  round_loses from to round ends.GivenUp bytes left gives = gives
 
   none_lost : (bytes : List ℕ) → Loses bytes bytes
   none_lost bytes = ([], refl)
@@ -64,3 +65,4 @@ full_end (ends.Malformed fault) e = absurd (false≢true e)
 full_end ends.ReadFault e = absurd (false≢true e)
 full_end (ends.PoolEmpty need) e = absurd (false≢true e)
 full_end ends.NoMemory e = absurd (false≢true e)
+full_end ends.GivenUp e = absurd (false≢true e)

@@ -27,12 +27,13 @@ use Rattle.rounds.specs.declared.merge.Step.{Step}
 use Rattle.rounds.specs.declared.merge.Step.TheVariants as steps
 use Rattle.rounds.specs.Handled.{Ends, Handled}
 use Rattle.rounds.specs.Merged.{Start, Behind, Ended, WroteRound, PutRound, Sunk, Merged}
-use Rattle.rounds.specs.Merging.{ending_of, options_of, is_worked, Fails, WritesLast, Puts, GivesUp, Ahead, EndsBehind, TakesAll, EndsCaptured}
+use Rattle.rounds.specs.Merging.{ending_of, options_of, is_worked, Fails, WritesLast, Puts, GivesUp, Ahead, EndsBehind, TakesBehind, EndsCaptured}
 use Rattle.rounds.specs.Reading.{GivesRound}
 use Rattle.rounds.specs.Reads.{Spot, ReadRound, Reads, is_full}
 use Rattle.rounds.specs.RoundsState.{RoundsState}
 use Rattle.rounds.proofs.Merging.{ahead_none, goes_then, ends_then, captured_then, taken_then, fronts_then, cut_by, cut_captured, fails_front, fails_end, ended_front, end_given, end_captured}
-use Rattle.rounds.proofs.Merging.{malformed_given, malformed_captured, fault_given, fault_captured, empty_given, empty_captured, full_given, done_taken, is_short, fewer_by}
+use Rattle.rounds.proofs.Merging.{malformed_given, malformed_captured, fault_given, fault_captured, empty_given, empty_captured, full_given, cut_taken, last_taken, empty_taken, is_short, fewer_by}
+use Rattle.rounds.proofs.Needs.{end_told, ending_at}
 use Rattle.rounds.proofs.Rows.{reads_lose}
 
 -- ---- how a round ends
@@ -45,6 +46,7 @@ puts_goes h h1 out (rounds.Malformed fault) puts = absurd puts
 puts_goes h h1 out rounds.ReadFault puts = absurd puts
 puts_goes h h1 out (rounds.PoolEmpty need) puts = absurd puts
 puts_goes h h1 out rounds.NoMemory puts = absurd puts
+puts_goes h h1 out rounds.GivenUp puts = absurd puts
 
 abbrev is_goes : Step → Bool
 is_goes steps.Goes = true
@@ -63,10 +65,6 @@ goes_full options file h h1 read k w =
 abbrev end_in : Step → MergeEnd
 end_in steps.Goes = ends.NoMemory
 end_in (steps.Ends end) = end
-
-abbrev is_done : MergeEnd → Bool
-is_done ends.Done = true
-is_done _ = false
 
 abbrev is_read : MergeEnd → Bool
 is_read ends.ReadFault = true
@@ -99,7 +97,7 @@ module _ (blocks : ℕ) (state : RoundsState) (file : FileHead) where
   record Says (k : ℕ) (from to : Spot) (h h1 : Option (List ℕ)) (end : MergeEnd) : Type 0 where
     given : Told from.left to.left (EndsBehind k blocks (options_of state) from.place h h1 end)
     captured : Told from.left to.left (EndsCaptured k from.place end)
-    taken : end ≡ ends.Done → Told from.left to.left (TakesAll from.taken to.taken from.place)
+    taken : Told from.left to.left (TakesBehind k from.place from.taken to.taken (ending_of end))
     read : end ≡ ends.ReadFault → Rose from.faults to.faults
     prefix : PrefixUnless (Rose from.faults to.faults) (merging blocks (options_of state) from.place) from.left to.left h h1
 
@@ -111,7 +109,8 @@ module _ (blocks : ℕ) (state : RoundsState) (file : FileHead) where
     given = told;
     captured = Told-weaker from.left to.left (EndsBehind k blocks (options_of state) from.place h h1 end) (EndsCaptured k from.place end)
         (λ bytes left _. cut_captured k from.place end bytes left cut) told;
-    taken = λ done. not_one is_done end ends.WriteFault ends.NoMemory _ refl refl cut (ap is_done done);
+    taken = Told-weaker from.left to.left (EndsBehind k blocks (options_of state) from.place h h1 end) (TakesBehind k from.place from.taken to.taken (ending_of end))
+        (λ bytes left _. cut_taken k from.taken to.taken from.place end bytes left cut) told;
     read = λ fault. not_one is_read end ends.WriteFault ends.NoMemory _ refl refl cut (ap is_read fault);
     prefix = front;
   }
@@ -141,6 +140,9 @@ module _ (blocks : ℕ) (state : RoundsState) (file : FileHead) where
 
     took : min (from.taken + round_need (map packet_of round)) (2 ^ 64 - 1) ≤ to.taken
     took = omega (arith, r.took, r.need)
+
+    took_by : (e : RoundEnd) → Told from.left to.left (GivesRound blocks from.place to.place round e) → Told from.left to.left (TakesBehind k from.place from.taken to.taken (ending_at k e))
+    took_by e told = end_told blocks k from.taken to.taken from.place to.place round took e from.left to.left told
 
     given_as : (e : RoundEnd) → read.end ≡ e → Told from.left to.left (GivesRound blocks from.place to.place round e)
     given_as e is = subst (λ (x : RoundEnd). Told from.left to.left (GivesRound blocks from.place to.place round x)) is r.given
@@ -194,7 +196,7 @@ module _ (blocks : ℕ) (state : RoundsState) (file : FileHead) where
         alone end last ys (closes refl) reads record {
           given = end_given blocks state file from.place to.place round is_file r.some fits k from.left to.left h h1 end fewer put told;
           captured = end_captured k blocks from.place to.place round from.left to.left h h1 out r.captured end put told;
-          taken = λ done. done_taken blocks from.taken to.taken from.place to.place round from.left to.left read.end is took r.given;
+          taken = last_taken k from.taken to.taken from.place h h1 out ends.Done end from.left to.left put (took_by rounds.End told);
           read = λ fault. not_last is_read h h1 out ends.Done end _ refl refl refl put (ap is_read fault);
           prefix = inr (Told-weaker from.left to.left (GivesRound blocks from.place to.place round rounds.End) (WritesPrefix passing h h1)
               (λ bytes left gives.
@@ -207,7 +209,7 @@ module _ (blocks : ℕ) (state : RoundsState) (file : FileHead) where
         alone end last ys (closes refl) reads record {
           given = malformed_given blocks state file from.place to.place round is_file r.some fits k from.left to.left h h1 fault end fewer put told;
           captured = malformed_captured k blocks from.place to.place round from.left to.left h h1 out r.captured fault end put told;
-          taken = λ done. not_last is_done h h1 out (ends.Malformed fault) end _ refl refl refl put (ap is_done done);
+          taken = last_taken k from.taken to.taken from.place h h1 out (ends.Malformed fault) end from.left to.left put (took_by (rounds.Malformed fault) told);
           read = λ failed. not_last is_read h h1 out (ends.Malformed fault) end _ refl refl refl put (ap is_read failed);
           prefix = inr (Told-weaker from.left to.left (GivesRound blocks from.place to.place round (rounds.Malformed fault)) (WritesPrefix passing h h1)
               (λ bytes left gives.
@@ -220,7 +222,7 @@ module _ (blocks : ℕ) (state : RoundsState) (file : FileHead) where
           given = fault_given blocks state file from.place to.place round is_file r.some fits k from.left to.left h h1 end
               (fewer_by read.end (length round) state.budget (ap is_short is) r.fewer) put told;
           captured = fault_captured k blocks from.place to.place round from.left to.left h h1 out r.captured end put told;
-          taken = λ done. not_last is_done h h1 out ends.ReadFault end _ refl refl refl put (ap is_done done);
+          taken = last_taken k from.taken to.taken from.place h h1 out ends.ReadFault end from.left to.left put (took_by rounds.ReadFault told);
           read = λ fault. r.failed is;
           prefix = inl (r.failed is);
         }
@@ -231,12 +233,17 @@ module _ (blocks : ℕ) (state : RoundsState) (file : FileHead) where
           given = empty_given blocks state file from.place to.place round is_file r.some fits k from.left to.left h h1 need end
               (fewer_by read.end (length round) state.budget (ap is_short is) r.fewer) gave.0 gave.1 told;
           captured = empty_captured k blocks from.place to.place round from.left to.left h h1 out r.captured need end gave.0 told;
-          taken = λ done. not_one is_done end (ends.PoolEmpty k need) ends.WriteFault _ refl refl gave.0 (ap is_done done);
+          taken = empty_taken k from.taken to.taken need from.place end from.left to.left gave.0 (took_by (rounds.PoolEmpty need) told);
           read = λ fault. not_one is_read end (ends.PoolEmpty k need) ends.WriteFault _ refl refl gave.0 (ap is_read fault);
           prefix = kept_front _ passing from.left to.left h h1 _ (0, Appends-kept h h h1 [] (Appends-nil h) gave.1) told;
         }
     end_says rounds.NoMemory end last ys is closes reads w =
         let gave = gave_up rounds.NoMemory end is refl w in
+        subst (λ (x : MergeEnd). Says k from last h h1 x) (sym gave.0)
+        (subst (λ (x : Option (List ℕ)). Says k from last h x ends.NoMemory) (sym gave.1)
+        (lost_says k from last h (read ∷ ys) (to, r, (λ e. closes refl), reads)))
+    end_says rounds.GivenUp end last ys is closes reads w =
+        let gave = gave_up rounds.GivenUp end is refl w in
         subst (λ (x : MergeEnd). Says k from last h h1 x) (sym gave.0)
         (subst (λ (x : Option (List ℕ)). Says k from last h x ends.NoMemory) (sym gave.1)
         (lost_says k from last h (read ∷ ys) (to, r, (λ e. closes refl), reads)))
@@ -249,7 +256,7 @@ module _ (blocks : ℕ) (state : RoundsState) (file : FileHead) where
   ended_so start k first at to h h1 end gone later says = record {
     given = ends_then blocks (options_of state) k start.place at.place to.place start.left at.left to.left start.held h h1 start.taken at.taken to.taken end gone.told says.given;
     captured = captured_then blocks (options_of state) k start.place at.place to.place start.left at.left to.left start.held h h1 start.taken at.taken to.taken end gone.told says.given says.captured;
-    taken = λ done. taken_then blocks (options_of state) k start.place at.place to.place start.left at.left to.left start.held h h1 start.taken at.taken to.taken gone.told (says.taken done);
+    taken = taken_then blocks (options_of state) k start.place at.place to.place start.left at.left to.left start.held h h1 start.taken at.taken to.taken end gone.told says.given says.taken;
     read = λ fault. rose_from first.faults at.faults to.faults later (says.read fault);
     prefix = fronts_then blocks (options_of state) k start.place at.place to.place start.left at.left to.left start.held h h1 start.taken at.taken to.taken
         (Rose at.faults to.faults) (Rose first.faults to.faults) (λ rose. rose_from first.faults at.faults to.faults later rose) gone.told says.prefix;

@@ -15,7 +15,7 @@ use Rattle.rounds.specs.declared.merge.MergeEnd.TheVariants as ends
 use Rattle.rounds.specs.declared.merge.Step.{Step}
 use Rattle.rounds.specs.declared.merge.Step.TheVariants as steps
 use Rattle.rounds.specs.declared.round.RoundRead.{RoundRead}
-use Rattle.rounds.specs.Merging.{ending_of, options_of, is_worked, Puts, GivesUp, Ahead, TakesAll, HoldsCaptured}
+use Rattle.rounds.specs.Merging.{ending_of, options_of, is_worked, Puts, GivesUp, Ahead, TakesTo, HoldsCaptured}
 use Rattle.rounds.specs.Handled.{FewPauses}
 use Rattle.rounds.specs.Reads.{Spot}
 use Rattle.rounds.specs.RoundsState.{RoundsState}
@@ -38,7 +38,7 @@ pub record Ended (blocks : ℕ) (options : Options) (start : Start) (from to : S
     (end : MergeEnd) : Type 0 where
   pub given : Told start.left to.left (Passes (merging blocks options start.place) start.held held (ending_of end))
   pub captured : Told start.left to.left (HoldsCaptured blocks options.budget start.place end)
-  pub taken : end ≡ ends.Done → Told start.left to.left (TakesAll start.taken to.taken start.place)
+  pub taken : Told start.left to.left (TakesTo blocks options.budget start.place start.taken to.taken (ending_of end))
   pub read : end ≡ ends.ReadFault → Rose from.faults to.faults
   pub prefix : PrefixUnless (Rose from.faults to.faults) (merging blocks options start.place) start.left to.left
       start.held held
@@ -87,7 +87,8 @@ pub record Merged (old new : RoundsState) (from to : Spot) (before after : Sunk)
   pub home : new.home ≡ new.blocks
   pub named : (h : ℕ → ℕ) → weighed h new.stock ≡ weighed h old.stock
   pub same : (new.blocks ≡ old.blocks) × (options_of new ≡ options_of old) × (new.keep ≡ old.keep)
-  pub taken : end ≡ ends.Done → Told from.left to.left (TakesAll from.taken to.taken from.place)
+  pub taken : Told from.left to.left
+      (TakesTo old.blocks old.budget from.place from.taken to.taken (ending_of end))
   pub least : old.taken ≤ new.taken
   pub pauses : FewPauses old.empties old.pauses new.empties new.pauses
   pub captured : Told from.left to.left (HoldsCaptured old.blocks old.budget from.place end)

@@ -45,10 +45,11 @@ Fails old new bytes end = ((end ≡ ends.WriteFault) × AppendsPrefix old new by
 abbrev pub WritesLast : Option (List ℕ) → Option (List ℕ) → List ℕ → MergeEnd → MergeEnd → Type 0
 WritesLast old new bytes end result = ((result ≡ end) × Appends old new bytes) ⊎ Fails old new bytes result
 
--- a round that ended so is worked: there was memory for it, and it doesn't exceed the blocks
+-- a round that ended so is worked: there was memory for it and there were blocks, which it doesn't exceed
 abbrev pub is_worked : RoundEnd → Bool
 is_worked (read_ends.PoolEmpty need) = false
 is_worked read_ends.NoMemory = false
+is_worked read_ends.GivenUp = false
 is_worked _ = true
 
 -- a round that was worked is put: merging goes on behind a full one, and else ends as the reading did, unless it fails
@@ -66,6 +67,7 @@ abbrev pub GivesUp : Option (List ℕ) → Option (List ℕ) → ℕ → RoundEn
 GivesUp old new k (read_ends.PoolEmpty need) result = ((result ≡ ends.PoolEmpty k need) ⊎ (result ≡ ends.WriteFault))
     × Keeps old new
 GivesUp old new k read_ends.NoMemory result = (result ≡ ends.NoMemory) × (new ≡ old)
+GivesUp old new k read_ends.GivenUp result = (result ≡ ends.NoMemory) × (new ≡ old)
 GivesUp old new k _ result = ⊥
 
 -- ---- rounds
@@ -101,6 +103,29 @@ IfEnds (steps.Ends end) P = P end
 -- as many blocks were taken as all packets need
 abbrev pub TakesAll : ℕ → ℕ → Place → List ℕ → List ℕ → Type 0
 TakesAll before now place bytes left = min (before + round_need (found_at place bytes).packets) (2 ^ 64 - 1) ≤ now
+
+-- By an ending, as many blocks were taken as the packets need that were read: of a source that failed those of the
+-- bytes that are gone, of a round that exceeds the blocks those of the rounds before.
+abbrev pub TakesTo : ℕ → ℕ → Place → ℕ → ℕ → Ending → List ℕ → List ℕ → Type 0
+TakesTo blocks budget place before now (Stopped (AtRound round need)) bytes left =
+    min (before + round_need (packets_within blocks budget place bytes)) (2 ^ 64 - 1) ≤ now
+TakesTo blocks budget place before now (Stopped Nowhere) bytes left = TakesAll before now place bytes left
+TakesTo blocks budget place before now (Stopped (AtFault fault)) bytes left = TakesAll before now place bytes left
+TakesTo blocks budget place before now ReadFault bytes left = (gone : List ℕ) × (bytes ≡ gone ++ left)
+    × TakesAll before now place gone left
+TakesTo blocks budget place before now WriteFault bytes left = ⊤
+TakesTo blocks budget place before now NoMemory bytes left = ⊤
+
+-- the same of the round that ends it, behind k others
+abbrev pub TakesBehind : ℕ → Place → ℕ → ℕ → Ending → List ℕ → List ℕ → Type 0
+TakesBehind k place before now (Stopped (AtRound round need)) bytes left =
+    (round ≡ k) × (min before (2 ^ 64 - 1) ≤ now)
+TakesBehind k place before now (Stopped Nowhere) bytes left = TakesAll before now place bytes left
+TakesBehind k place before now (Stopped (AtFault fault)) bytes left = TakesAll before now place bytes left
+TakesBehind k place before now ReadFault bytes left = (gone : List ℕ) × (bytes ≡ gone ++ left)
+    × TakesAll before now place gone left
+TakesBehind k place before now WriteFault bytes left = ⊤
+TakesBehind k place before now NoMemory bytes left = ⊤
 
 -- the packets that these bytes hold from a place on are such as a capture may hold
 abbrev pub AreCapturedAt : Place → List ℕ → Type 0

@@ -45,6 +45,7 @@ GivesRound blocks old new round (ends.PoolEmpty need) bytes left = Exceeds block
     (map packet_of round) bytes left
 GivesRound blocks old new round ends.ReadFault bytes left = Holds blocks old (map packet_of round) bytes left
 GivesRound blocks old new round ends.NoMemory bytes left = Loses bytes left
+GivesRound blocks old new round ends.GivenUp bytes left = Loses bytes left
 
 -- the end of a round for a stop
 abbrev pub IsEndOf : Stop → RoundEnd → Type 0

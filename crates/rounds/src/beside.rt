@@ -54,8 +54,8 @@ impl Intake {
 
     /// Reads the next round while blocks come home, as `read_round` of the rounds says it. Where a record needs blocks
     /// that aren't home and don't come the round is paused behind the header of that record, and once all blocks but
-    /// its own are home it is read to its end. So it is `NoMemory` for want of blocks alone only where whoever has them
-    /// keeps them. A round takes memory for its packets.
+    /// its own are home it is read to its end. It is given up for want of blocks only where whoever has them keeps them
+    /// (`given_up`). A round takes memory for its packets.
     pub fn read_beside<R: Wait, S: Source, H: Supply>(
         &mut self,
         rt: &R,
@@ -91,6 +91,7 @@ impl Intake {
         ensures taken { min (self.old.taken + result.round.blocks) (2 ^ 64 - 1) ≤ self.new.taken }
         ensures least { self.old.taken ≤ self.new.taken }
         ensures later { S.faults (source_of reader.old) ≤ S.faults (source_of reader.new) }
+        ensures given_up { result.end ≡ RoundEnd.GivenUp → H.ended more.new ≡ true }
         ensures failed { result.end ≡ RoundEnd.ReadFault
             → Rose (S.faults (source_of reader.old)) (S.faults (source_of reader.new)) }
     {
@@ -106,7 +107,7 @@ impl Intake {
         }
         RoundRead {
             round: paused.into_round(),
-            end: RoundEnd::NoMemory,
+            end: RoundEnd::GivenUp,
         }
     }
 }

@@ -13,7 +13,7 @@ ghost use Rattle.offload_model.specs.Need.{need_of, round_need};
 ghost use Rattle.offload_model.specs.Captured.{IsCaptured};
 ghost use Rattle.gro.specs.Slots.{packet_of};
 ghost use Rattle.reading.specs.Reading.{KeepsHead};
-ghost use Rattle.rounds.specs.Ahead.{round_of, IfPaused, Lacks};
+ghost use Rattle.rounds.specs.Ahead.{round_of, IfPaused, IfRead, Lacks};
 ghost use Rattle.rounds.specs.Filling.{reached, FillsAhead, FillsBehind};
 ghost use Rattle.rounds.specs.Fresh.{NumberedFrom};
 ghost use Rattle.rounds.specs.Weights.{weights_of};
@@ -239,6 +239,7 @@ impl Intake {
             × (self.new.empties ≡ self.old.empties) × (self.new.pauses ≡ self.old.pauses) }
         ensures budget { (1 ≤ self.old.budget) × (self.old.budget ≤ 4096) }
         ensures takes { Takes self.old.blocks self.old.taken self.new.taken 0 (round_of result).blocks }
+        ensures going { IfRead result (λ read. read.end ≢ RoundEnd.GivenUp) }
     {
         let _ = self.pool.taken();
         let Blank {
@@ -303,6 +304,7 @@ impl Intake {
             × (self.new.empties ≡ self.old.empties) × (self.new.pauses ≡ self.old.pauses) }
         ensures budget { (1 ≤ self.old.budget) × (self.old.budget ≤ 4096) }
         ensures takes { Takes self.old.blocks self.old.taken self.new.taken paused.round.blocks result.round.blocks }
+        ensures going { result.end ≢ RoundEnd.GivenUp }
     {
         let _ = self.pool.taken();
         let Paused {

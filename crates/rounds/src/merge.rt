@@ -6,9 +6,8 @@ ghost use Rattle.off_io.specs.Content.{SaysFlushed};
 ghost use Rattle.off_io.specs.Faults.{Rose};
 ghost use Rattle.off_io.specs.Told.{Told};
 ghost use Rattle.pcap_io.specs.declared.heads.Link.TheVariants.{Ethernet};
-ghost use Rattle.pcap_io.specs.Places.{IsReady, found_at};
+ghost use Rattle.pcap_io.specs.Places.{IsReady};
 ghost use Rattle.pcap_io.specs.Readers.{place_of, source_of, SameLoan};
-ghost use Rattle.offload_model.specs.Need.{round_need};
 ghost use Rattle.offload_model.specs.Passing.{merging, Passes, PrefixUnless, flushes};
 ghost use Rattle.offload_model.specs.Steps.{round_output};
 ghost use Rattle.gro.specs.Slots.{packet_of};
@@ -17,7 +16,7 @@ ghost use Rattle.rounds.specs.Lanes.{worked_bytes};
 ghost use Rattle.rounds.specs.Weights.{weights_of, weights_worked};
 ghost use Rattle.block_pool.specs.PoolState.{weighed};
 ghost use Rattle.rounds.specs.Merging.{ending_of, options_of, is_worked, Puts, GivesUp, IfEnds};
-ghost use Rattle.rounds.specs.Merging.{HoldsCaptured};
+ghost use Rattle.rounds.specs.Merging.{HoldsCaptured, TakesTo};
 
 use crate::bench::Bench;
 use crate::handler::RoundHandler;
@@ -87,7 +86,7 @@ fn close_round<K: Sink>(sink: &mut K, end: RoundEnd) -> Step
         RoundEnd::End => Step::Ends(finish(sink, MergeEnd::Done)),
         RoundEnd::Malformed(fault) => Step::Ends(finish(sink, MergeEnd::Malformed(fault))),
         RoundEnd::ReadFault => Step::Ends(finish(sink, MergeEnd::ReadFault)),
-        RoundEnd::PoolEmpty { need: _ } | RoundEnd::NoMemory => unreachable!(),
+        RoundEnd::PoolEmpty { need: _ } | RoundEnd::NoMemory | RoundEnd::GivenUp => unreachable!(),
     }
 }
 
@@ -154,7 +153,7 @@ impl Bench {
                 };
                 finish(sink, end)
             }
-            RoundEnd::NoMemory => MergeEnd::NoMemory,
+            RoundEnd::NoMemory | RoundEnd::GivenUp => MergeEnd::NoMemory,
             RoundEnd::Full | RoundEnd::End | RoundEnd::Malformed(_) | RoundEnd::ReadFault =>
                 unreachable!(),
         }
@@ -296,9 +295,9 @@ impl Rounds {
         ensures named { (h : ℕ → ℕ) → weighed h self.new.stock ≡ weighed h self.old.stock }
         ensures same { (self.new.blocks ≡ self.old.blocks) × (options_of self.new ≡ options_of self.old)
             × (self.new.keep ≡ self.old.keep) }
-        ensures taken { result ≡ MergeEnd.Done → Told (S.left (source_of reader.old)) (S.left (source_of reader.new))
-            (λ bytes left. min (self.old.taken + round_need (found_at (place_of reader.old) bytes).packets) (2 ^ 64 - 1)
-            ≤ self.new.taken) }
+        ensures taken { Told (S.left (source_of reader.old)) (S.left (source_of reader.new))
+            (TakesTo self.old.blocks self.old.budget (place_of reader.old) self.old.taken self.new.taken
+            (ending_of result)) }
         ensures least { self.old.taken ≤ self.new.taken }
         ensures pauses { (self.old.pauses ≤ self.new.pauses)
             × (min (self.old.empties + (self.new.pauses - self.old.pauses)) (2 ^ 64 - 1) ≤ self.new.empties) }

@@ -163,6 +163,8 @@ pub enum RoundEnd {
     PoolEmpty { need: u32 },
     ReadFault,
     NoMemory,
+    /// Its next record needs blocks that aren't home, and whoever has them keeps them.
+    GivenUp,
 }
 
 /// A round, and why it has no more records.
@@ -231,12 +233,12 @@ pub enum ReadAhead {
     Paused(Paused),
 }
 
-/// Whether a round that ended so is worked: there was memory for it, and it doesn't exceed the blocks.
+/// Whether a round that ended so is worked: there was memory for it and there were blocks, which it doesn't exceed.
 pub(crate) fn is_worked(end: RoundEnd) -> bool
     ensures worked { result ≡ is_worked_end end }
 {
     match end {
-        RoundEnd::PoolEmpty { need: _ } | RoundEnd::NoMemory => false,
+        RoundEnd::PoolEmpty { need: _ } | RoundEnd::NoMemory | RoundEnd::GivenUp => false,
         _ => true,
     }
 }

@@ -1,5 +1,5 @@
 //! Reads the records of a round.
-ghost use Rattle.std.specs.Prelude.{◌≡◌, ◌+◌, ◌-◌, ◌*◌, ◌<◌, ◌≤◌, ◌^◌, [], false, true, length, min, Some, ℕ};
+ghost use Rattle.std.specs.Prelude.{◌≡◌, ◌≢◌, ◌+◌, ◌-◌, ◌*◌, ◌<◌, ◌≤◌, ◌^◌, [], false, true, length, min, Some, ℕ};
 ghost use Rattle.std.specs.VecDeque.{deque_capacity};
 ghost use Rattle.block_pool.specs.PoolState.{home, weighed};
 ghost use Rattle.pcap_io.specs.declared.heads.Link.TheVariants.{Ethernet};
@@ -83,6 +83,7 @@ pub(crate) fn read_more<S: Source, H: Supply>(
     ensures so_far { result.1 ≡ Halt.Lacking
         → pool.new.taken ≡ min (pool.old.taken + (result.0 - used)) (2 ^ 64 - 1) }
     ensures hold { IsHold hold.new.items (deque_capacity hold.new) }
+    ensures going { result.1 ≢ Halt.Ended RoundEnd.GivenUp }
 {
     let _ = pool.taken();
     let mut used = used;
@@ -141,6 +142,7 @@ pub(crate) fn read_behind<S: Source>(
     ensures made { pool.new.made ≡ pool.old.made }
     ensures takes { Takes pool.old.made pool.old.taken pool.new.taken used result.0 }
     ensures hold { IsHold hold.new.items (deque_capacity hold.new) }
+    ensures going { result.1 ≢ RoundEnd.GivenUp }
 {
     let mark = used - spares.home();
     let front = &mut [];

@@ -267,5 +267,5 @@ fn lacking<R: Wait + Abort>(rt: &R, alloc: Global) -> (RoundEnd, u32, u32) {
 
 #[test]
 fn a_round_without_blocks_is_no_capture_that_ended(rt: HostRuntime) {
-    assert_eq!(rt; lacking(&rt, rt.alloc()), (RoundEnd::NoMemory, 0, 3));
+    assert_eq!(rt; lacking(&rt, rt.alloc()), (RoundEnd::GivenUp, 0, 3));
 }

@@ -2,11 +2,14 @@ use Rattle.std.proofs.Common.{rules, ◌≡◌, []}
 use Rattle.pcap_io.specs.declared.heads.Link.TheVariants.{Ethernet}
 use Rattle.pcap_io.specs.Places.{first_place}
 use Rattle.check_totals.specs.Counts.{totals_of}
-use Rattle.rounds.specs.Merging.{options_of as rounds_options}
+use Rattle.rounds.specs.Merging.{options_of as rounds_options, TakesTo}
+use Rattle.checking.specs.Handling.{ending_of as check_ending}
+use Rattle.checking.specs.declared.capture.CheckEnd.{CheckEnd}
+use Rattle.off_io.specs.Told.{Told}
 use Rattle.check_command.specs.Checking.{first_line}
 use Rattle.command_answers.specs.Output.{options}
 use Rattle.check_command.proofs.Telling.{none_checked, from_nothing, all_checked}
-use Rattle.std.proofs.Common.{ℕ, List, ap, ◌∙◌}
+use Rattle.std.proofs.Common.{ℕ, List, ap, subst, ◌∙◌}
 use Rattle.pcap_io.specs.Places.{found_at}
 use Rattle.offload_model.specs.Need.{round_need}
 use Rattle.rounds.specs.RoundsState.{RoundsState}
@@ -48,7 +51,14 @@ returns-clause-left g c =
     let none = ap (λ (r : RoundsState). r.taken) made in
     record {
       blocks = s.blocks;
-      engine = λ ok. (blocks, home, taken_first need _ _ _ _ none (m.taken (s.done ok)));
+      engine = λ ok. (
+        blocks,
+        home,
+        taken_first need _ _ _ _ none
+            (subst (λ (e : CheckEnd). Told (g.S.Source.left c.args.source.now) (g.S.Source.left c.count_behind-end.new.source)
+            (TakesTo c.in-Ok.rounds.blocks c.in-Ok.rounds.budget (first_place c.args.file Ethernet 0) c.in-Ok.rounds.taken
+            c.count_behind-end.new.rounds.taken (check_ending e))) (s.done ok) m.taken),
+      );
       home = (blocks, home);
     }
 

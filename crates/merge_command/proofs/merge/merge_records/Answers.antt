@@ -5,7 +5,8 @@ use Rattle.pcap_io.specs.Places.{first_place, found_at}
 use Rattle.offload_model.specs.Need.{round_need}
 use Rattle.offload_model.specs.Passing.{Ending, merging, Passes}
 use Rattle.rounds.specs.RoundsState.{RoundsState}
-use Rattle.rounds.specs.Merging.{ending_of as merge_ending, options_of as rounds_options, HoldsCaptured}
+use Rattle.rounds.specs.Merging.{ending_of as merge_ending, options_of as rounds_options, HoldsCaptured, TakesTo}
+use Rattle.rounds.specs.declared.merge.MergeEnd.{MergeEnd}
 use Rattle.command_answers.specs.declared.status.Status.{Status}
 use Rattle.command_answers.specs.Ending.{Ends, OfRead}
 use Rattle.command_answers.specs.Output.{options, AreCapturedWithin}
@@ -52,8 +53,10 @@ returns-clause-left g c =
       engine = λ ok. (
         blocks,
         home,
-        taken_first need _ _ _ _ (ap (λ (r : RoundsState). r.taken) made) (m.ensures.taken
-            (s.done ok)),
+        taken_first need _ _ _ _ (ap (λ (r : RoundsState). r.taken) made)
+            (subst (λ (e : MergeEnd). Told (g.S.Source.left c.args.source.now) (g.S.Source.left m.new.source)
+            (TakesTo c.in-Ok.rounds.blocks c.in-Ok.rounds.budget (first_place c.args.file Ethernet 0) c.in-Ok.rounds.taken
+            m.new.rounds.taken (merge_ending e))) (s.done ok) m.ensures.taken),
       );
       home = (blocks, home);
     }

@@ -14,7 +14,7 @@ use Rattle.rounds.specs.declared.round_reading.Halt.TheVariants.{Ended}
 use Rattle.rounds.specs.declared.round.RoundEnd.{RoundEnd}
 use Rattle.rounds.specs.declared.round.RoundEnd.TheVariants.{Full}
 use Rattle.rounds.proofs.Rounding.{no_front}
-use Rattle.rounds.proofs.Pausing.{behind_stop, behind_more, end_fault, end_full, ended_same, fills_behind, numbers_behind, round_last, round_same}
+use Rattle.rounds.proofs.Pausing.{behind_stop, behind_more, end_fault, end_full, end_goes, ended_same, fills_behind, numbers_behind, round_last, round_same}
 use Rattle.std.proofs.Math.Nat.{le_trans}
 use Rattle.offload_model.specs.Need.{need_of}
 use Rattle.rounds.proofs.Counting.{all_home, few_still, fits_bare, fits_out, hand_same, none_lacking, rose_later, takes_then}
@@ -164,3 +164,9 @@ returns-clause-made g c = c.read_more-blocks.ensures.made ∙ c.in-Ok.ensures.ma
 
 pub returns-clause-round : goal.returns-clause-round
 returns-clause-round g c = c.read_more-blocks.ensures.round
+
+pub returns-in-Err-clause-going : goal.returns-in-Err-clause-going
+returns-in-Err-clause-going g c = end_goes c.in-Err.stop c.end_of.result c.end_of.ensures.end
+
+pub returns-clause-going : goal.returns-clause-going
+returns-clause-going g c = λ up. c.read_more-blocks.ensures.going (c.in-Ended.is ∙ ap Ended up)

@@ -7,7 +7,7 @@ use Rattle.rounds.specs.Reading.{GivesRest, NumbersOn, WaitsOver}
 use Rattle.rounds.specs.declared.round.RoundEnd.{RoundEnd}
 use Rattle.reading.specs.Reading.{front_size, GivesRecord}
 use Rattle.rounds.specs.RoundOf.{brought_by}
-use Rattle.rounds.proofs.Pausing.{came_back, came_then, full_fault, halt_ended, halt_fault, halt_full, halt_lacking, lacking_full, round_last, round_same, waits_over}
+use Rattle.rounds.proofs.Pausing.{came_back, came_then, full_fault, full_goes, halt_ended, halt_fault, halt_full, halt_goes, halt_lacking, lacking_full, round_last, round_same, waits_over}
 use Rattle.rounds.proofs.Rounding.{no_front, so_far_none, so_far_at, so_far_more, round_stop_given, fills_round, numbers_none, numbers_more}
 use Rattle.std.proofs.Math.Nat.{le-add_right, le_trans}
 use Rattle.rounds.proofs.Counting.{came_one, fits_type, most_more, one_more, room_more, rose_later, size_more, taken_more, takes_last}
@@ -199,3 +199,9 @@ read_record-requires-clause-front g c = sym (ap front_size (c.reading.invariant.
 
 pub overflow_add-used : goal.overflow_add-used
 overflow_add-used g c = record { fits = fits_type c.in-Ok.ensures.fits c.reading.invariant.made c.requires.made }
+
+pub returns-in-Err-clause-going : goal.returns-in-Err-clause-going
+returns-in-Err-clause-going g c = halt_goes c.in-Err.stop c.halt_of.result c.halt_of.ensures.halt
+
+pub returns-clause-going : goal.returns-clause-going
+returns-clause-going g c = full_goes

@@ -1,13 +1,15 @@
 use Rattle.std.proofs.Common.{◌≡◌, ◌+◌, ◌≤◌, ◌∙◌, IfOk, Ok, Option, None, Result, Some, ap, refl, sym, subst}
 use Rattle.block_pool.specs.PoolState.{home, weighed}
 use Rattle.std.proofs.lemmas.Option.{same_Some}
-use Rattle.rounds.specs.Ahead.{round_of}
+use Rattle.rounds.specs.Ahead.{round_of, IfRead}
 use Rattle.rounds.specs.Filling.{reached, FillsAhead}
 use Rattle.rounds.specs.Reading.{WaitsOver}
 use Rattle.rounds.specs.Weights.{weights_of}
 use Rattle.rounds.specs.declared.round.ReadAhead.{ReadAhead}
+use Rattle.rounds.specs.declared.round.RoundEnd.TheVariants.{GivenUp}
+use Rattle.rounds.specs.declared.round_reading.Halt.TheVariants.{Ended}
 use Rattle.rounds.specs.RoundsState.{IntakeState, RoundState}
-use Rattle.rounds.proofs.Pausing.{came_whole, ends_ahead, unread_ahead, waits_ahead}
+use Rattle.rounds.proofs.Pausing.{came_whole, ends_ahead, no_memory_goes, unread_ahead, waits_ahead}
 use Rattle.rounds.proofs.Counting.{came_read}
 use Rattle.rounds.specs.RoundOf.{brought_by, Came, Takes}
 use Rattle.rounds.specs.declared.round.Blank.{Blank}
@@ -111,3 +113,14 @@ none_kept e n = cc
 
 pub unreachable-requires : goal.unreachable-requires
 unreachable-requires g c = none_kept (c.read_more-blocks.ensures.lacking c.in-Lacking.is).1 c.in_default.is
+
+pub returns-in-Err-clause-going : goal.returns-in-Err-clause-going
+returns-in-Err-clause-going g c = λ up. no_memory_goes (sym c.no_round.ensures.end ∙ up)
+
+pub returns-clause-going : goal.returns-clause-going
+returns-clause-going g c =
+    let r = c.read_more-blocks in
+    elim c.match-halt.branch [
+      | in-Ended b ↦ subst (λ (a : ReadAhead). IfRead a (λ read. read.end ≡ GivenUp → ⊥)) (sym b.result-is) (λ up. r.ensures.going (b.in-Ended.is ∙ ap Ended up))
+      | in-Lacking+in-Some b ↦ subst (λ (a : ReadAhead). IfRead a (λ read. read.end ≡ GivenUp → ⊥)) (sym b.result-is) tt
+    ]

@@ -10,9 +10,9 @@ use Rattle.rounds.specs.RoundOf.{brought_by, Came}
 use Rattle.rounds.specs.RoundsState.{RoundState}
 use Rattle.rounds.specs.Weights.{weights_of}
 use Rattle.rounds.specs.declared.round.ReadAhead.TheVariants.{Read}
-use Rattle.rounds.specs.declared.round.RoundEnd.TheVariants.{NoMemory}
+use Rattle.rounds.specs.declared.round.RoundEnd.TheVariants.{GivenUp}
 use Rattle.rounds.proofs.Counting.{came_on}
-use Rattle.rounds.proofs.Pausing.{came_then, rest_ahead, unread_behind}
+use Rattle.rounds.proofs.Pausing.{came_then, given_up_behind, rest_ahead}
 use Rattle.rounds.proofs.intake.Intake.read_beside.Given as given
 use Rattle.rounds.proofs.intake.Intake.read_beside.Goals.{After-bring_rest, After-into_round, After-read_on}
 use Rattle.rounds.proofs.intake.Intake.read_beside.Goals as goal
@@ -91,21 +91,22 @@ returns-then-bring_rest g c =
       taken = omega (arith, c.in-Paused.ensures.takes.taken, r.takes.taken, r.takes.least.0, b.same.1);
       least = omega (arith, c.in-Paused.ensures.takes.least.1, r.takes.least.1, b.same.1);
       later = f.later;
+      given_up = λ up. absurd (r.going up);
       failed = f.failed;
     }
 
 -- where they don't come it ends
 fills_none : (g : given.Over) (c : After-into_round g) → FillsAhead c.args.self.now.blocks c.args.self.now.budget (reached g.S.Source.left g.S.Source.faults c.args.reader.now)
-    (reached g.S.Source.left g.S.Source.faults c.read_ahead-ahead.new.reader) (Read (record { round = c.into_round.result; end = NoMemory }))
+    (reached g.S.Source.left g.S.Source.faults c.read_ahead-ahead.new.reader) (Read (record { round = c.into_round.result; end = GivenUp }))
 fills_none g c =
     let u = c.read_ahead-ahead in
     let e = c.in-Paused.ensures in
     let p = c.in-Paused.paused in
     let mid = reached g.S.Source.left g.S.Source.faults u.new.reader in
     let is = c.into_round.ensures.same in
-    rest_ahead c.args.self.now.blocks c.args.self.now.budget (reached g.S.Source.left g.S.Source.faults c.args.reader.now) mid mid p (record { round = c.into_round.result; end = NoMemory }) e.fills.waits
+    rest_ahead c.args.self.now.blocks c.args.self.now.budget (reached g.S.Source.left g.S.Source.faults c.args.reader.now) mid mid p (record { round = c.into_round.result; end = GivenUp }) e.fills.waits
     e.fills.reads.numbers e.fills.later
-    (unread_behind c.args.self.now.blocks c.args.self.now.budget mid p.head p.round.packets c.into_round.result.packets (ap (λ (r : RoundState). r.packets) is) e.fills.waits.fewer)
+    (given_up_behind c.args.self.now.blocks c.args.self.now.budget mid p.head p.round.packets c.into_round.result.packets (ap (λ (r : RoundState). r.packets) is) e.fills.waits.fewer)
     (subst (λ (r : RoundState). AllByRecursion IsCaptured (map packet_of r.packets)) (sym is) e.fills.reads.captured) (subst (λ (r : RoundState). r.blocks ≡ round_need (map packet_of r.packets)) (sym is) e.fills.reads.need)
 
 pub returns : goal.returns
@@ -135,5 +136,9 @@ returns g c =
       taken = omega (arith, e.takes.taken, b.same.1, ap (λ (r : RoundState). r.blocks) is);
       least = omega (arith, e.takes.least.1, b.same.1);
       later = f.later;
+      given_up = λ up. b.ended c.if-bring_rest.false;
       failed = f.failed;
     }
+
+pub returns-in-Read-clause-given_up : goal.returns-in-Read-clause-given_up
+returns-in-Read-clause-given_up g c = λ up. absurd (c.in-Read.ensures.going up)

@@ -3,7 +3,7 @@ use Rattle.gro.specs.declared.slot.Slot.{Slot as Packet}
 use Rattle.rounds.specs.Filling.{reached, FillsBehind}
 use Rattle.rounds.specs.Reading.{NumbersOn}
 use Rattle.rounds.specs.RoundsState.{IntakeState, RoundState}
-use Rattle.rounds.proofs.Pausing.{round_same, unread_behind}
+use Rattle.rounds.proofs.Pausing.{no_memory_goes, round_same, unread_behind}
 use Rattle.std.specs.Prelude.{OnOk}
 use Rattle.std.proofs.lemmas.Bool.{false≢true}
 use Rattle.block_pool.specs.PoolState.{PoolState, home, weighed}
@@ -128,3 +128,6 @@ returns-then-is_err-clause-need g c = (round_same _ _ _ _ _ c.make_room.ensures.
 
 pub returns-then-is_err-clause-home : goal.returns-then-is_err-clause-home
 returns-then-is_err-clause-home g c = ap (λ (r : RoundState). c.args.self.now.home + r.blocks) c.round.view_is ∙ c.requires.out
+
+pub returns-then-is_err-clause-going : goal.returns-then-is_err-clause-going
+returns-then-is_err-clause-going g c = no_memory_goes
