@@ -13,7 +13,7 @@ use Rattle.offload_run.specs.declared.engine.Engine.{Engine}
 use Rattle.offload_run.specs.declared.engine.Engine.TheVariants as engines
 use Rattle.rounds.specs.RoundsState.{RoundsState}
 use Rattle.segmenting.specs.SegmentState.{SegmentState}
-use Rattle.segment_command.specs.Leaving.{records_need}
+use Rattle.segmenting.specs.Segmenting.{records_need}
 
 -- the engine of what a command left
 abbrev pub merging : Option RoundsState → Option Engine

@@ -30,7 +30,7 @@ use Rattle.segmenting.specs.Segmenting.{Moves, TakesOne, WritesNone, ending_of a
 use Rattle.command_answers.specs.declared.status.Status.{Status}
 use Rattle.command_answers.specs.declared.status.Status.TheVariants as statuses
 use Rattle.command_answers.specs.Ending.{ending_of, Ends}
-use Rattle.segment_command.specs.Leaving.{records_need}
+use Rattle.segmenting.specs.Segmenting.{records_need}
 use Rattle.segment_command.specs.Segmenting.{Segmented, TookThem, GivesUp}
 
 -- the answer of a record, by its variant, and by the blocks of the whole capture

@@ -1,18 +1,10 @@
 -- What `segment` leaves: its pool, all blocks home, and at least as many taken as the bytes that were given need, or
 -- the count stands at its last value.
-use Rattle.std.specs.Prelude.{◌≡◌, ℕ, ◌-◌, ◌^◌, ◌≤◌, List, length, map, min, Option, None, Some, ⊤}
+use Rattle.std.specs.Prelude.{◌≡◌, ℕ, ◌-◌, ◌^◌, ◌≤◌, List, min, Option, None, Some, ⊤}
 use Rattle.off_io.specs.Told.{Told}
-use Rattle.pcap_io.specs.Capture.{Packet}
-use Rattle.pcap_io.specs.Limits.{off_head_size}
-use Rattle.offload_model.specs.Need.{needed}
 use Rattle.segmenting.specs.SegmentState.{SegmentState}
 use Rattle.command_answers.specs.declared.status.Status.{Status}
 use Rattle.command_answers.specs.declared.status.Status.TheVariants.{Ok}
-
--- the need of all records, each a round of its own: the bytes that each offload header has, of either version, aren't
--- read into blocks
-abbrev pub records_need : List Packet → ℕ
-records_need rs = needed (map (λ r. length r.frame - off_head_size) rs)
 
 -- what is left of the source before and after
 abbrev pub HasSegmented : ℕ → (List ℕ → ℕ) → Option SegmentState → Option (List ℕ) → Option (List ℕ) → Type 0

@@ -14,7 +14,7 @@ use Rattle.segmenting.specs.Segmenting.{ending_of as fault_ending}
 use Rattle.command_answers.specs.declared.status.Status.{Status}
 use Rattle.command_answers.specs.declared.status.Status.TheVariants.{Ok, WriteFault}
 use Rattle.command_answers.specs.Ending.{ending_of, Ends, FlushesAt, HasBlocks}
-use Rattle.segment_command.specs.Leaving.{records_need}
+use Rattle.segmenting.specs.Segmenting.{records_need}
 
 -- the bytes that are gone are k records, whatever follows them, and their segments were written
 abbrev pub Segmented : ℕ → ℕ → Place → Place → Option (List ℕ) → Option (List ℕ) → List ℕ → List ℕ → Type 0

@@ -12,7 +12,8 @@ ghost use Rattle.offload_words.specs.declared.words.Command.TheVariants.{Segment
 ghost use Rattle.offload_words.specs.Segment.{IsInRange};
 ghost use Rattle.command_answers.specs.RunAnswers.{HasAnswered};
 ghost use Rattle.command_answers.specs.Ending.{ending_of, Ends, FlushesAt, HasBlocks, IsCaused};
-ghost use Rattle.segment_command.specs.Leaving.{HasSegmented, IsSegmentHome, LeavesSegment, records_need};
+ghost use Rattle.segment_command.specs.Leaving.{HasSegmented, IsSegmentHome, LeavesSegment};
+ghost use Rattle.segmenting.specs.Segmenting.{records_need};
 ghost use Rattle.segment_command.specs.Segmenting.{GivesUp, SegmentedAll};
 
 use command_answers::{Status, finish, refused};

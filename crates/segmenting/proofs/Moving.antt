@@ -35,8 +35,9 @@ use Rattle.segmenting.specs.declared.segment.Moved.{Moved}
 use Rattle.segmenting.specs.declared.segment.Moved.TheVariants.{One}
 use Rattle.segmenting.specs.declared.segment.SegFault.{SegFault}
 use Rattle.segmenting.specs.Cutting.{WritesRecord, packets_bytes}
-use Rattle.reading.specs.Reading.{front_size, judged_at, record_of, Passes, GivesRecord}
-use Rattle.segmenting.specs.Segmenting.{IsFaultOf, IsMovedOf, Moves, TakesOne}
+use Rattle.reading.specs.Reading.{front_size, in_front, judged_at, record_of, Passes, GivesRecord}
+use Rattle.segmenting.specs.Segmenting.{records_need, IsFaultOf, IsMovedOf, Moves, TakesBy, TakesOne}
+use Rattle.pcap_io.proofs.RecordLaws.{no_record}
 
 abbrev passed : List ℕ → Stop → Passed
 passed output stop = record { output = output; stop = stop }
@@ -190,3 +191,44 @@ pub takes_one : (a b : Option (List ℕ)) (blocks used before now : ℕ) (old ne
 takes_one a b blocks used before now old new front p enough told =
     Told-weaker a b (GivesRecord used blocks old new front (Ok p)) (TakesOne before now old new)
     (λ bytes left passes. (passes.0, (record_of front p, (passes.1, (λ tail. (passes.2 tail).found), enough)))) told
+
+-- a record was read whole, and wasn't segmented
+takes_whole : (before now : ℕ) (old new : Place) (r : Packet) (gone : List ℕ) → found_at old (gone ++ []) ≡ in_front (r ∷ []) (found_at new [])
+    → min (before + need_of (length r.frame - off_head_size)) (2 ^ 64 - 1) ≤ now → min (before + records_need (found_at old gone).packets) (2 ^ 64 - 1) ≤ now
+takes_whole before now old new r gone found enough =
+    let all : found_at old gone ≡ in_front (r ∷ []) (found_at new []) = ap (found_at old) (sym (append-nil gone)) ∙ found in
+    let packets : (found_at old gone).packets ≡ r ∷ [] = ap (λ (f : Found). f.packets) all ∙ ap (λ (ps : List Packet). r ∷ ps) (no_record new [] (omega arith)) in
+    subst (λ (ps : List Packet). min (before + records_need ps) (2 ^ 64 - 1) ≤ now) (sym packets) (omega (arith, enough))
+
+takes_refused : (before now offset number : ℕ) (old new : Place) (r : Packet) (refused : Refused) (fault : SegFault) (bytes left : List ℕ) → IsFaultOf refused offset number fault
+    → min (before + need_of (length r.frame - off_head_size)) (2 ^ 64 - 1) ≤ now → Passes old new (r ∷ []) bytes left → TakesBy (Err fault) before now old new bytes left
+takes_refused before now offset number old new r refusals.BadOffload fault bytes left is enough passes =
+    rw is (passes.0, passes.1, takes_whole before now old new r passes.0 (passes.2 []).found enough)
+takes_refused before now offset number old new r refusals.WriteFault fault bytes left is enough passes =
+    rw is (passes.0, passes.1, takes_whole before now old new r passes.0 (passes.2 []).found enough)
+
+pub takes_not_moved : (a b : Option (List ℕ)) (blocks used before now offset number : ℕ) (old new : Place) (front : List ℕ) (p : Held) (refused : Refused) (fault : SegFault)
+    → IsFaultOf refused offset number fault → min (before + need_of (length (record_of front p).frame - off_head_size)) (2 ^ 64 - 1) ≤ now → Told a b (GivesRecord used blocks old new front (Ok p))
+    → Told a b (TakesBy (Err fault) before now old new)
+takes_not_moved a b blocks used before now offset number old new front p refused fault is enough told =
+    Told-weaker a b (GivesRecord used blocks old new front (Ok p)) (TakesBy (Err fault) before now old new)
+    (λ bytes left passes. takes_refused before now offset number old new (record_of front p) refused fault bytes left is enough passes) told
+
+-- or none was
+takes_none : (before now : ℕ) (place : Place) (gone : List ℕ) → (found_at place gone).packets ≡ [] → before ≤ now → min (before + records_need (found_at place gone).packets) (2 ^ 64 - 1) ≤ now
+takes_none before now place gone none least = subst (λ (ps : List Packet). min (before + records_need ps) (2 ^ 64 - 1) ≤ now) (sym none) (omega (arith, least))
+
+takes_stop : (blocks before now : ℕ) (old new : Place) (front : List ℕ) (stop : Unread) (result : Result Moved SegFault) (bytes left : List ℕ) → IsMovedOf stop result → before ≤ now
+    → GivesRecord 0 blocks old new front (Err stop) bytes left → TakesBy result before now old new bytes left
+takes_stop blocks before now old new front stops.End result bytes left is least gives = rw is tt
+takes_stop blocks before now old new front (stops.Malformed fault) result bytes left is least gives = rw is (gives.2.0, gives.2.1, takes_none before now old gives.2.0 gives.2.2 least)
+takes_stop blocks before now old new front (stops.PoolEmpty need) result bytes left is least gives = rw is tt
+takes_stop blocks before now old new front stops.ReadFault result bytes left is least gives = rw is (gives.0, gives.1, takes_none before now old gives.0 gives.2 least)
+takes_stop blocks before now old new front stops.NoMemory result bytes left is least gives = rw is tt
+takes_stop blocks before now old new front stops.Lacking result bytes left is least gives = absurd is
+
+pub takes_unmoved : (a b : Option (List ℕ)) (blocks before now : ℕ) (old new : Place) (front : List ℕ) (stop : Unread) (result : Result Moved SegFault) → IsMovedOf stop result → before ≤ now
+    → Told a b (GivesRecord 0 blocks old new front (Err stop)) → Told a b (TakesBy result before now old new)
+takes_unmoved a b blocks before now old new front stop result is least told =
+    Told-weaker a b (GivesRecord 0 blocks old new front (Err stop)) (TakesBy result before now old new) (λ bytes left gives. takes_stop blocks before now old new front stop result bytes left is least gives)
+    told

@@ -1,12 +1,12 @@
 -- What segmenting one record says of the bytes that were left before it and are left after it, and of what was written.
-use Rattle.std.specs.Prelude.{◌≡◌, ℕ, ◌+◌, ◌-◌, ◌≤◌, ◌^◌, min, length, Option, List, [], ◌++◌, Result, Ok, Err}
+use Rattle.std.specs.Prelude.{◌≡◌, ℕ, ◌+◌, ◌-◌, ◌≤◌, ◌^◌, map, min, length, Option, List, [], ◌++◌, Result, Ok, Err, ⊤}
 use Rattle.std.specs.Io.KnownBytes.{Appends, Keeps}
 use Rattle.pcap_io.specs.declared.place.Place.{Place}
 use Rattle.pcap_io.specs.declared.faults.CapKind.TheVariants.{BadOffload}
 use Rattle.pcap_io.specs.Capture.{Packet, one_more}
 use Rattle.pcap_io.specs.Limits.{off_head_size}
 use Rattle.pcap_io.specs.Places.{found_at}
-use Rattle.offload_model.specs.Need.{need_of}
+use Rattle.offload_model.specs.Need.{need_of, needed}
 use Rattle.offload_model.specs.Passing.{Ending, Stopped, AtFault, AtRound, ReadFault, WriteFault, NoMemory, segmenting}
 use Rattle.offload_model.specs.Passing.{Passes}
 use Rattle.offload_model.specs.Steps.{GoesOn}
@@ -49,6 +49,25 @@ TakesOne old new from to bytes left =
     (gone : List ℕ) × ((r : Packet) × ((bytes ≡ gone ++ left)
     × ((tail : List ℕ) → found_at from (gone ++ tail) ≡ one_more r (found_at to tail))
     × (min (old + need_of (length r.frame - off_head_size)) (2 ^ 64 - 1) ≤ new)))
+
+-- the need of all records, each a round of its own: the bytes that each offload header has, of either version, aren't
+-- read into blocks
+abbrev pub records_need : List Packet → ℕ
+records_need rs = needed (map (λ r. length r.frame - off_head_size) rs)
+
+-- as many blocks were taken as the whole records need that lie in the bytes that are gone
+abbrev pub TakesGone : ℕ → ℕ → Place → List ℕ → List ℕ → Type 0
+TakesGone old new from bytes left = (gone : List ℕ) × (bytes ≡ gone ++ left)
+    × (min (old + records_need (found_at from gone).packets) (2 ^ 64 - 1) ≤ new)
+
+-- By the answer; of a record that was refused too, or not written. One for which there was no memory, or that exceeds
+-- the blocks, isn't read whole.
+abbrev pub TakesBy : Result Moved SegFault → ℕ → ℕ → Place → Place → List ℕ → List ℕ → Type 0
+TakesBy (Ok One) old new from to bytes left = TakesOne old new from to bytes left
+TakesBy (Err (faults.Malformed fault)) old new from to bytes left = TakesGone old new from bytes left
+TakesBy (Err faults.ReadFault) old new from to bytes left = TakesGone old new from bytes left
+TakesBy (Err faults.WriteFault) old new from to bytes left = TakesGone old new from bytes left
+TakesBy _ old new from to bytes left = ⊤
 
 -- what a stop comes to
 abbrev pub IsMovedOf : Stop → Result Moved SegFault → Type 0

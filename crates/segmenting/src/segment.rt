@@ -9,7 +9,7 @@ ghost use Rattle.pcap_io.specs.declared.heads.Link.TheVariants.{Offload};
 ghost use Rattle.pcap_io.specs.Places.{IsReady, found_at};
 ghost use Rattle.pcap_io.specs.Readers.{place_of, source_of, SameLoan};
 ghost use Rattle.reading.specs.Reading.{GoesOn};
-ghost use Rattle.segmenting.specs.Segmenting.{IsFaultOf, IsMovedOf, Moves, TakesOne};
+ghost use Rattle.segmenting.specs.Segmenting.{IsFaultOf, IsMovedOf, Moves, TakesBy};
 
 use crate::cut::{Refused, cut_record};
 use block_pool::Pool;
@@ -202,8 +202,8 @@ impl SegmentRun {
         ensures home { self.new.home ≡ self.new.blocks }
         ensures named { (h : ℕ → ℕ) → weighed h self.new.stock ≡ weighed h self.old.stock }
         ensures same { self.new.blocks ≡ self.old.blocks }
-        ensures taken { result ≡ Ok Moved.One → Told (S.left (source_of reader.old)) (S.left (source_of reader.new))
-            (TakesOne self.old.taken self.new.taken (place_of reader.old) (place_of reader.new)) }
+        ensures taken { Told (S.left (source_of reader.old)) (S.left (source_of reader.new))
+            (TakesBy result self.old.taken self.new.taken (place_of reader.old) (place_of reader.new)) }
         ensures least { self.old.taken ≤ self.new.taken }
         ensures most { self.new.taken ≤ self.old.taken + self.old.blocks }
         ensures later { S.faults (source_of reader.old) ≤ S.faults (source_of reader.new) }

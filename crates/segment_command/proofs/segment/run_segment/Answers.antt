@@ -2,7 +2,7 @@ use Rattle.std.proofs.Common.{refl, rules}
 use Rattle.pcap_io.specs.declared.heads.Link.TheVariants.{Ethernet, Offload}
 use Rattle.offload_model.specs.Passing.{segmenting}
 use Rattle.command_answers.specs.Ending.{ending_of}
-use Rattle.segment_command.specs.Leaving.{records_need}
+use Rattle.segmenting.specs.Segmenting.{records_need}
 use Rattle.command_answers.proofs.Behind.{no_file, head_failed, whole_given}
 use Rattle.command_answers.proofs.Prefixes.{no_file_prefix, head_failed_prefix, whole_prefix}
 use Rattle.segment_command.proofs.Used.{segmented_whole}

@@ -1,5 +1,8 @@
-use Rattle.std.proofs.Common.{◌+◌, ◌∙◌, ℕ, ap, arith, refl, rules, Ok, Err}
+use Rattle.std.proofs.Common.{◌+◌, ◌∙◌, ℕ, ap, arith, refl, rules, subst, Ok, Err, Result}
+use Rattle.off_io.specs.Told.{Told}
 use Rattle.segmenting.specs.declared.segment.Moved.{Moved}
+use Rattle.segmenting.specs.declared.segment.SegFault.{SegFault}
+use Rattle.segmenting.specs.Segmenting.{TakesBy}
 use Rattle.segment_command.proofs.Segmenting.{moves_by, none_yet, one_more_given, done_given, fault_given, took_none, took_more, took_all}
 use Rattle.segment_command.proofs.segment.segment_all.Goals as goal
 
@@ -27,7 +30,8 @@ records-preserved g c =
     let goes = c.in-Ok.ensures.next one in (
       one_more_given c.args.blocks c.records.round from mid next _ _ _ _ _ _ c.records.invariant.0
           (moves_by _ c.args.blocks mid next _ _ _ _ _ _ c.records.invariant.5 one c.in-Ok.ensures.given),
-      took_more _ _ _ from mid next _ _ _ c.records.invariant.1 (c.in-Ok.ensures.taken one),
+      took_more _ _ _ from mid next _ _ _ c.records.invariant.1 (subst (λ (r : Result Moved SegFault). Told (g.S.Source.left c.records.reader.source.now) (g.S.Source.left c.next.new.reader.source.now) (TakesBy r c.records.run.taken c.next.new.self.taken mid
+          next)) one c.in-Ok.ensures.taken),
       goes.link ∙ c.records.invariant.2,
       goes.number ∙ ap (λ (n : ℕ). n + 1) c.records.invariant.3,
       goes.ready,

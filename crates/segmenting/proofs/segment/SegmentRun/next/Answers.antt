@@ -22,8 +22,8 @@ use Rattle.segmenting.specs.declared.segment.Moved.TheVariants.{One}
 use Rattle.segmenting.specs.Cutting.{WritesRecord}
 use Rattle.reading.specs.Reading.{record_of}
 use Rattle.segmenting.specs.SegmentState.{SegmentState}
-use Rattle.segmenting.specs.Segmenting.{IsFaultOf, IsMovedOf, Moves}
-use Rattle.segmenting.proofs.Moving.{moved_given, need_is, next_is, not_moved_given, original_counts, takes_one, unmoved_given}
+use Rattle.segmenting.specs.Segmenting.{IsFaultOf, IsMovedOf, Moves, TakesBy}
+use Rattle.segmenting.proofs.Moving.{moved_given, need_is, next_is, not_moved_given, original_counts, takes_not_moved, takes_one, takes_unmoved, unmoved_given}
 use Rattle.reading.proofs.Laying.{laid_alone, weighed_none}
 use Rattle.segmenting.proofs.segment.SegmentRun.next.Given as given
 use Rattle.segmenting.proofs.segment.SegmentRun.next.Goals.{After-stopped, Joined-wrote, in-Ok-wrote, in-Err-wrote}
@@ -145,7 +145,8 @@ returns-in-Err g c =
       home = keeps.home;
       named = λ k. omega (arith, (e.named_back k).0, ap (λ (s : SegmentState). weighed k s.stock) c.self.view_is);
       same = keeps.same;
-      taken = λ one. absurd (to.0 one);
+      taken = takes_unmoved _ _ c.self.inside.pool.made c.args.self.now.taken r.new.pool.taken c.args.reader.now.place r.new.reader.place r.new.front c.in-Err.stop c.stopped.result
+          c.stopped.ensures.moved keeps.least e.given;
       least = keeps.least;
       most = keeps.most;
       later = e.later;
@@ -292,16 +293,27 @@ returns-clause-given g c =
     ]
 
 pub returns-clause-taken : goal.returns-clause-taken
-returns-clause-taken g c = λ one.
+returns-clause-taken g c =
     let r = c.read_record-read in
     let w = c.cut_record-wrote in
+    let old = c.args.reader.now.place in
+    let new = r.new.reader.place in
     let front = r.new.front in
     let p = c.only_packet-packet.result in
     let is = only c.self.inside.packets r.new.packets p c.self.invariant.5 c.only_packet-packet.ensures.only in
     let long : length front ≡ off_head_size = r.ensures.front in
     let before = ap (λ (s : SegmentState). s.taken) c.self.view_is in
-    takes_one _ _ c.self.inside.pool.made 0 c.args.self.now.taken c.refill.new.self.taken c.args.reader.now.place r.new.reader.place front p
-    (omega (arith, need_is front p long, before, c.in-Ok.ensures.need p is, c.in-Ok.ensures.count p is, c.in-Ok.ensures.taken, w.ensures.adds.made.1, c.refill.ensures.same.1)) (c.in-Ok.ensures.given p is)
+    let enough : min (c.args.self.now.taken + need_of (length (record_of front p).frame - off_head_size)) (2 ^ 64 - 1) ≤ c.refill.new.self.taken =
+    omega (arith, need_is front p long, before, c.in-Ok.ensures.need p is, c.in-Ok.ensures.count p is, c.in-Ok.ensures.taken, w.ensures.adds.made.1, c.refill.ensures.same.1) in
+    let a = g.S.Source.left c.args.reader.now.source.now in
+    let b = g.S.Source.left r.new.reader.source.now in
+    elim c.match-wrote.branch [
+      | in-Ok-wrote b1 ↦ subst (λ z. Told a b (TakesBy z c.args.self.now.taken c.refill.new.self.taken old new)) (sym b1.result-is)
+          (takes_one a b c.self.inside.pool.made 0 c.args.self.now.taken c.refill.new.self.taken old new front p enough (c.in-Ok.ensures.given p is))
+      | in-Err-wrote b1 ↦ subst (λ z. Told a b (TakesBy z c.args.self.now.taken c.refill.new.self.taken old new)) (sym b1.result-is)
+          (takes_not_moved a b c.self.inside.pool.made 0 c.args.self.now.taken c.refill.new.self.taken c.in-Ok.offset p.number old new front p b1.in-Err-wrote.refused b1.fault_of.result
+          b1.fault_of.ensures.fault enough (c.in-Ok.ensures.given p is))
+    ]
 
 pub returns-clause-named : goal.returns-clause-named
 returns-clause-named g c = (refilled g c).named
