@@ -257,6 +257,18 @@ never_lacking {X = X} answer faults.ReadFault stop is why lacks = false≢true (
 pub not_lacking : {X : Type 0} (answer : Result X Stop) → is_lacking answer ≡ false → answer ≢ Err Lacking
 not_lacking answer other lacks = false≢true (sym other ∙ ap is_lacking lacks)
 
+abbrev is_memory : {X : Type 0} → Result X Stop → Bool
+is_memory (Err NoMemory) = true
+is_memory _ = false
+
+pub not_memory : {X : Type 0} (answer : Result X Stop) → is_memory answer ≡ false → answer ≢ Err NoMemory
+not_memory answer other short = false≢true (sym other ∙ ap is_memory short)
+
+-- nor is a fault of the reader want of memory
+pub never_memory : {X : Type 0} (answer : Result X Stop) (fault : InFault) (stop : Stop) → answer ≡ Err stop → IsStopOf fault stop → answer ≢ Err NoMemory
+never_memory {X = X} answer (faults.Cap fault) stop is why short = false≢true (sym (ap (λ (s : Stop). is_memory {X = X} (Err s)) why) ∙ ap is_memory (sym is ∙ short))
+never_memory {X = X} answer faults.ReadFault stop is why short = false≢true (sym (ap (λ (s : Stop). is_memory {X = X} (Err s)) why) ∙ ap is_memory (sym is ∙ short))
+
 pub no_stop : {X : Type 0} (x : X) (stop : Stop) → Ok x ≢ Err stop
 no_stop x stop is = cc
 

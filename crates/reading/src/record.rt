@@ -85,6 +85,7 @@ fn read_packet<S: Source>(
         (S.faults (source_of reader.old)) (S.faults (source_of reader.new)) result }
     ensures front { length front.new ≡ length front.old }
     ensures begun { result ≢ Err Stop.Lacking }
+    ensures whole { result ≡ Err Stop.NoMemory → (place_of reader.new).body ≡ 0 }
     ensures blocks { IfOk result (λ r. r ≡ need_of len) }
     ensures puts { Puts mark len head.now packets.old packets.new result }
     ensures spends { Spends (need_of len) pool.old pool.new spares.old spares.new packets.old packets.new result }
@@ -141,6 +142,7 @@ fn read_short<S: Source>(
         (S.faults (source_of reader.old)) (S.faults (source_of reader.new)) result }
     ensures front { length front.new ≡ length front.old }
     ensures begun { result ≢ Err Stop.Lacking }
+    ensures whole { result ≡ Err Stop.NoMemory → (place_of reader.new).body ≡ 0 }
     ensures blocks { IfOk result (λ r. r ≡ need_of len) }
     ensures puts { Puts mark len head.now packets.old packets.new result }
     ensures spends { Spends (need_of len) pool.old pool.new spares.old spares.new packets.old packets.new result }
@@ -194,6 +196,7 @@ pub fn finish_record<S: Source>(
     ensures one { OnOk result (HasOne packets.old packets.new) }
     ensures none { OnErr result (packets.new ≡ packets.old) }
     ensures begun { result ≢ Err Stop.Lacking }
+    ensures whole { result ≡ Err Stop.NoMemory → (place_of reader.new).body ≡ 0 }
     ensures room { packets.old.room ≤ packets.new.room + 1 }
     ensures number { OnOk result (OfNew packets.old packets.new (λ p. p.number ≡ head.now.number)) }
     ensures original { OnOk result (OfNew packets.old packets.new (λ p. is_bad_original
@@ -239,7 +242,8 @@ pub fn finish_record<S: Source>(
 /// It is judged in this order: its header, whether the round then needs more blocks than there are, its body. Between
 /// them its blocks are home, or are brought. Where they don't come its body isn't read, which is `Lacking`: its header
 /// is written to `kept`, which no other answer touches, and [`finish_record`] goes on behind it. A record that isn't
-/// given leaves all blocks home that were or that came, and the packets as they were.
+/// given leaves all blocks home that were or that came, and the packets as they were. One for which there was no memory
+/// was read whole (`whole`).
 #[inline(always)]
 pub fn read_record<S: Source, H: Supply>(
     alloc: Global,
@@ -278,6 +282,7 @@ pub fn read_record<S: Source, H: Supply>(
         × Told (S.left (source_of reader.old)) (S.left (source_of reader.new))
         (GivesHead (place_of reader.old) (Ok (Some head))) }
     ensures unkept { result ≢ Err Stop.Lacking → kept.new ≡ kept.old }
+    ensures whole { result ≡ Err Stop.NoMemory → (place_of reader.new).body ≡ 0 }
     ensures refused { result ≡ Err Stop.Lacking
         → min (H.refusals more.old + 1) (2 ^ 64 - 1) ≤ H.refusals more.new }
     ensures asked { H.refusals more.old ≤ H.refusals more.new }

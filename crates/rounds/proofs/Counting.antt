@@ -117,9 +117,6 @@ moved_all : (new left old had : ℕ) {made : ℕ} → new + left ≡ old + had �
 moved_all new left old had sum (inl none) room = none
 moved_all new left old had sum (inr full) room = omega arith
 
-pub home_moved : (new left old had : PoolState) → home new + home left ≡ home old + home had → (home left ≡ 0) ⊎ (home new ≡ old.made) → home old + home had ≤ old.made → home new ≡ home old + home had
-home_moved new left old had sum all room = omega (arith, sum, moved_all (home new) (home left) (home old) (home had) sum all room)
-
 pub weighed_moved : (h : ℕ → ℕ) (new left old had : PoolState) → home new + home left ≡ home old + home had → (home left ≡ 0) ⊎ (home new ≡ old.made) → home old + home had ≤ old.made
     → weighed h new.blocks + weighed h left.blocks ≡ weighed h old.blocks + weighed h had.blocks → weighed h new.blocks ≡ weighed h old.blocks + weighed h had.blocks
 weighed_moved h new left old had sum all room weighs = omega (arith, weighs, weighed_none h left.blocks (moved_all (home new) (home left) (home old) (home had) sum all room))

@@ -1,9 +1,9 @@
 -- Rounds that are merged, and how merging ends.
 use Rattle.std.proofs.Common.{◌≡◌, ◌+◌, ◌-◌, ◌^◌, ◌*◌, ◌<◌, ◌≤◌, ◌⊎◌, inl, inr, ℕ, min, List, [], ◌++◌, Bool, true, false, Option, Some, None, refl, sym, ap, ◌∙◌, subst, length, length-append, map}
-use Rattle.std.proofs.Common.{take, arith, append_assoc, append-nil}
+use Rattle.std.proofs.Common.{arith, append_assoc, append-nil}
 use Rattle.std.specs.List.{AllByRecursion}
 use Rattle.std.proofs.lemmas.Bool.{false≢true}
-use Rattle.std.proofs.lemmas.List.{length-map, take_at}
+use Rattle.std.proofs.lemmas.List.{length-map}
 use Rattle.std.specs.Io.KnownBytes.{Appends, Keeps}
 use Rattle.std.proofs.KnownBytes.{Appends-nil, Appends-trans, Appends-kept}
 use Rattle.off_io.specs.Content.{AppendsPrefix}
@@ -22,7 +22,7 @@ use Rattle.pcap_io.proofs.LengthLaws.{lengths_of_packets}
 use Rattle.maximal_runs.proofs.Pass.{all_append}
 use Rattle.offload_model.specs.Captured.{IsCaptured}
 use Rattle.offload_model.specs.Need.{needed, round_need, exceeded_at, found_before}
-use Rattle.offload_model.specs.Passing.{Stop, Ending, Stopped, Nowhere, AtFault, AtRound, Passed, ReadFault, WriteFault, NoMemory, merging, Passes, WritesPrefix, PrefixUnless, IsNoRound, stop_of}
+use Rattle.offload_model.specs.Passing.{Ending, Stopped, Nowhere, AtFault, AtRound, Passed, ReadFault, WriteFault, NoMemory, merging, Passes, WritesPrefix, PrefixUnless, IsNoRound, stop_of}
 use Rattle.offload_model.specs.Steps.{ending_behind, behind, round_output}
 use Rattle.offload_model.specs.Written.{Options}
 use Rattle.offload_model.proofs.Lists.{all_taken}

@@ -23,12 +23,11 @@ use Rattle.reading.specs.Reading.{GivesKept, GoesOn, KeepsHead, Passes}
 use Rattle.rounds.specs.Ahead.{GivesBehind, Waits}
 use Rattle.rounds.specs.Filling.{Reached, FillsAhead, FillsBehind, FillsOn}
 use Rattle.rounds.specs.Fresh.{NumberedFrom}
-use Rattle.rounds.specs.Reading.{GivesRest, GivesRound, FillsRound, IfEnded, IsEndOf, IsHaltOf, NumbersOn, PassesOver, WaitsOver}
+use Rattle.rounds.specs.Reading.{EndsAt, GivesRest, GivesRound, FillsRound, IfEnded, IsEndOf, IsHaltOf, NumbersOn, PassesOver, WaitsOver}
 use Rattle.rounds.specs.RoundOf.{at_hand, Brought, Came, IsRoundOf}
-use Rattle.rounds.specs.RoundsState.{RoundState}
+use Rattle.rounds.specs.RoundsState.{PausedState as Paused, RoundState}
 use Rattle.rounds.specs.declared.round_reading.Halt.{Halt}
 use Rattle.rounds.specs.declared.round_reading.Halt.TheVariants.{Ended, Lacking}
-use Rattle.rounds.specs.declared.round.Paused.{Paused}
 use Rattle.rounds.specs.declared.round.ReadAhead.TheVariants as aheads
 use Rattle.rounds.specs.declared.round.RoundEnd.{RoundEnd}
 use Rattle.rounds.specs.declared.round.RoundEnd.TheVariants as ends
@@ -71,21 +70,14 @@ is_fault _ = false
 pub no_memory_fault : ends.NoMemory ≡ ends.ReadFault → ⊥
 no_memory_fault e = false≢true (ap is_fault e)
 
-abbrev is_given_up : RoundEnd → Bool
-is_given_up ends.GivenUp = true
-is_given_up _ = false
-
 given_up_full : ends.GivenUp ≡ ends.Full → ⊥
 given_up_full e = false≢true (ap is_full e)
 
 given_up_fault : ends.GivenUp ≡ ends.ReadFault → ⊥
 given_up_fault e = false≢true (ap is_fault e)
 
-pub full_goes : Ended ends.Full ≡ Ended ends.GivenUp → ⊥
-full_goes e = false≢true (ap (λ (h : Halt). is_given_up (end_in h)) e)
-
 pub no_memory_goes : ends.NoMemory ≡ ends.GivenUp → ⊥
-no_memory_goes e = false≢true (ap is_given_up e)
+no_memory_goes e = cc
 
 pub lacking_full : Lacking ≡ Ended ends.Full → ⊥
 lacking_full e = false≢true (sym (ap is_lacking e))
@@ -120,18 +112,6 @@ halt_full stops.ReadFault halt is full = not_full ends.ReadFault halt refl is fu
 halt_full stops.NoMemory halt is full = not_full ends.NoMemory halt refl is full
 halt_full stops.Lacking halt is full = ended_lacking ends.Full halt full is
 
-not_given_up : (end : RoundEnd) (halt : Halt) → is_given_up end ≡ false → halt ≡ Ended end → halt ≡ Ended ends.GivenUp → ⊥
-not_given_up end halt isnt is up = false≢true (sym isnt ∙ ap is_given_up (ended_same end ends.GivenUp (sym is ∙ up)))
-
--- nor of one that is given up
-pub halt_goes : (stop : Stop) (halt : Halt) → IsHaltOf stop halt → halt ≡ Ended ends.GivenUp → ⊥
-halt_goes stops.End halt is up = not_given_up ends.End halt refl is up
-halt_goes (stops.Malformed fault) halt is up = not_given_up (ends.Malformed fault) halt refl is up
-halt_goes (stops.PoolEmpty need) halt is up = not_given_up (ends.PoolEmpty need) halt refl is up
-halt_goes stops.ReadFault halt is up = not_given_up ends.ReadFault halt refl is up
-halt_goes stops.NoMemory halt is up = not_given_up ends.NoMemory halt refl is up
-halt_goes stops.Lacking halt is up = ended_lacking ends.GivenUp halt up is
-
 -- a read fault is one
 pub halt_fault : (stop : Stop) (halt : Halt) → IsHaltOf stop halt → halt ≡ Ended ends.ReadFault → stop ≡ stops.ReadFault
 halt_fault stops.End halt is fault = absurd (not_fault ends.End halt refl is fault)
@@ -156,11 +136,23 @@ ended_by stops.Lacking end is = absurd is
 pub end_full : (stop : Stop) (end : RoundEnd) → IsEndOf stop end → end ≡ ends.Full → ⊥
 end_full stop end is full = halt_full stop (Ended end) (ended_by stop end is) (ap Ended full)
 
-pub end_goes : (stop : Stop) (end : RoundEnd) → IsEndOf stop end → end ≡ ends.GivenUp → ⊥
-end_goes stop end is up = halt_goes stop (Ended end) (ended_by stop end is) (ap Ended up)
-
 pub end_fault : (stop : Stop) (end : RoundEnd) → IsEndOf stop end → end ≡ ends.ReadFault → stop ≡ stops.ReadFault
 end_fault stop end is fault = halt_fault stop (Ended end) (ended_by stop end is) (ap Ended fault)
+
+-- where the reader stands then
+pub end_stands : (stop : Stop) (end : RoundEnd) (place : Place) → IsEndOf stop end → (stop ≡ stops.NoMemory → place.body ≡ 0) → EndsAt end place
+end_stands stops.End end place is whole = rw is tt
+end_stands (stops.Malformed fault) end place is whole = rw is tt
+end_stands (stops.PoolEmpty need) end place is whole = rw is tt
+end_stands stops.ReadFault end place is whole = rw is tt
+end_stands stops.NoMemory end place is whole = rw is (whole refl)
+end_stands stops.Lacking end place is whole = absurd is
+
+pub never_given_up : (end : RoundEnd) (place : Place) → EndsAt end place → end ≡ ends.GivenUp → ⊥
+never_given_up end place stands up = subst (λ (e : RoundEnd). EndsAt e place) up stands
+
+pub memory_between : (end : RoundEnd) (place : Place) → EndsAt end place → end ≡ ends.NoMemory → place.body ≡ 0
+memory_between end place stands short = subst (λ (e : RoundEnd). EndsAt e place) short stands
 
 -- ---- a round that stays
 

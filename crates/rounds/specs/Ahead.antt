@@ -12,8 +12,7 @@ use Rattle.gro.specs.Slots.{packet_of}
 use Rattle.rounds.specs.Fresh.{NumberedFrom}
 use Rattle.rounds.specs.Reading.{GivesRound, NumberedTo, PassesRound}
 use Rattle.reading.specs.Reading.{KeepsHead, Passes}
-use Rattle.rounds.specs.RoundsState.{RoundState}
-use Rattle.rounds.specs.declared.round.Paused.{Paused}
+use Rattle.rounds.specs.RoundsState.{PausedState as Paused, RoundState}
 use Rattle.rounds.specs.declared.round.ReadAhead.{ReadAhead}
 use Rattle.rounds.specs.declared.round.ReadAhead.TheVariants as aheads
 use Rattle.rounds.specs.declared.round.RoundEnd.{RoundEnd}

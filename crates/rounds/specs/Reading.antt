@@ -1,5 +1,5 @@
 -- What reading a round says of the bytes that were left before it and are left after it.
-use Rattle.std.specs.Prelude.{ℕ, ◌≡◌, ◌+◌, ◌<◌, ◌≤◌, List, [], ◌∷◌, ◌++◌, length, map, Option, None, Some, Ok}
+use Rattle.std.specs.Prelude.{ℕ, ◌≡◌, ◌+◌, ◌<◌, ◌≤◌, List, [], ◌∷◌, ◌++◌, length, map, Option, None, Some, Ok, ⊤}
 use Rattle.off_io.specs.Told.{Told}
 use Rattle.pcap_io.specs.declared.heads.RecHead.{RecHead}
 use Rattle.pcap_io.specs.declared.place.Place.{Place}
@@ -46,6 +46,12 @@ GivesRound blocks old new round (ends.PoolEmpty need) bytes left = Exceeds block
 GivesRound blocks old new round ends.ReadFault bytes left = Holds blocks old (map packet_of round) bytes left
 GivesRound blocks old new round ends.NoMemory bytes left = Loses bytes left
 GivesRound blocks old new round ends.GivenUp bytes left = Loses bytes left
+
+-- Why a round has no more that isn't given up, and where the reader stands: where memory ran out between two records.
+abbrev pub EndsAt : RoundEnd → Place → Type 0
+EndsAt ends.GivenUp place = ⊥
+EndsAt ends.NoMemory place = place.body ≡ 0
+EndsAt _ place = ⊤
 
 -- the end of a round for a stop
 abbrev pub IsEndOf : Stop → RoundEnd → Type 0

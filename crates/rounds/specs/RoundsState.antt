@@ -3,10 +3,12 @@
 -- what it holds.
 use Rattle.std.specs.Prelude.{ℕ, Bool, List}
 use Rattle.raw_block.specs.Views.{SoleState}
+use Rattle.pcap_io.specs.declared.heads.RecHead.{RecHead}
 use Rattle.gro.specs.declared.slot.Slot.{Slot}
 use Rattle.taps.specs.declared.clones.TapClone.{TapClone}
 use Rattle.lanes.specs.declared.lane.Lanes.{Lanes}
 use Rattle.lanes.specs.declared.plan.LanePlan.{LanePlan}
+use Rattle.rounds.specs.declared.round.Empty.{Empty}
 
 -- and how many packets a round may have, how its work is divided, and whether a clone of each packet is kept
 pub record RoundsState : Type 0 where
@@ -43,6 +45,13 @@ pub record RoundState : Type 0 where
   pub packets : List Slot
   pub spares : List SoleState
   pub blocks : ℕ
+
+-- a round that goes on, the header that was kept, why, and for how many packets its lists have room
+pub record PausedState : Type 0 where
+  pub round : RoundState
+  pub head : RecHead
+  pub empty : Empty
+  pub size : ℕ
 
 -- the lanes, and the clones that were kept
 pub record WorkedState : Type 0 where

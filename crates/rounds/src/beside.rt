@@ -55,7 +55,7 @@ impl Intake {
     /// Reads the next round while blocks come home, as `read_round` of the rounds says it. Where a record needs blocks
     /// that aren't home and don't come the round is paused behind the header of that record, and once all blocks but
     /// its own are home it is read to its end. It is given up for want of blocks only where whoever has them keeps them
-    /// (`given_up`). A round takes memory for its packets.
+    /// (`given_up`), and for want of memory it ends between two records alone (`whole`), so a paused one goes on first.
     pub fn read_beside<R: Wait, S: Source, H: Supply>(
         &mut self,
         rt: &R,
@@ -92,6 +92,7 @@ impl Intake {
         ensures least { self.old.taken ≤ self.new.taken }
         ensures later { S.faults (source_of reader.old) ≤ S.faults (source_of reader.new) }
         ensures given_up { result.end ≡ RoundEnd.GivenUp → H.ended more.new ≡ true }
+        ensures whole { result.end ≡ RoundEnd.NoMemory → (place_of reader.new).body ≡ 0 }
         ensures failed { result.end ≡ RoundEnd.ReadFault
             → Rose (S.faults (source_of reader.old)) (S.faults (source_of reader.new)) }
     {
@@ -101,9 +102,9 @@ impl Intake {
             ReadAhead::Read(read) => return read,
             ReadAhead::Paused(paused) => paused,
         };
-        let used = paused.round.blocks();
+        let used = paused.blocks();
         if self.bring_rest(rt, used, more) {
-            return self.read_on(paused, reader);
+            return self.go_on(paused, reader);
         }
         RoundRead {
             round: paused.into_round(),

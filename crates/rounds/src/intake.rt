@@ -17,14 +17,13 @@ ghost use Rattle.rounds.specs.Ahead.{round_of, IfPaused, IfRead, Lacks};
 ghost use Rattle.rounds.specs.Filling.{reached, FillsAhead, FillsBehind};
 ghost use Rattle.rounds.specs.Fresh.{NumberedFrom};
 ghost use Rattle.rounds.specs.Weights.{weights_of};
-ghost use Rattle.rounds.specs.Reading.{GivesRound, NumberedTo, PassesRound};
+ghost use Rattle.rounds.specs.Reading.{EndsAt, GivesRound, NumberedTo, PassesRound};
 ghost use Rattle.rounds.specs.RoundOf.{brought_by, Came, Takes};
 
 use crate::round::{Blank, Empty, Paused, ReadAhead, Round, RoundEnd, RoundRead, no_round};
 use crate::round_reading::{Halt, read_behind, read_more};
 use block_pool::Pool;
 use block_supply::{RECORD_BLOCKS, Supply};
-use core::mem::replace;
 use gro::Packets;
 use off_io::Source;
 use pcap_io::CaptureReader;
@@ -71,32 +70,6 @@ impl Model for Intake {
 
     ghost invariant = { λ i. (i.pool.made ≤ 65536) × IsHold i.hold.items (deque_capacity i.hold)
         × (1 ≤ i.budget) × (i.budget ≤ 4096) };
-}
-
-// Room for as many records as a round may have: for their packets, and for their spares, which move where their list
-// has fewer places.
-fn make_room(
-    alloc: Global,
-    packets: &mut Packets,
-    spares: &mut Pool,
-    budget: u32,
-) -> Result<(), AllocError>
-    requires few { (length packets.old.items ≤ budget) × (budget ≤ 4096) }
-    requires pairs { home spares.old ≡ 2 * length packets.old.items }
-    ensures reserved { OnOk result (budget ≤ length packets.new.items + packets.new.room) }
-    ensures room { OnOk result (2 * budget ≤ spares.new.made) }
-    ensures same { packets.new.items ≡ packets.old.items }
-    ensures home { home spares.new ≡ home spares.old }
-    ensures named { (h : ℕ → ℕ) → weighed h spares.new.blocks ≡ weighed h spares.old.blocks }
-{
-    packets.reserve(budget as usize - packets.len())?;
-    if spares.made() >= 2 * budget {
-        return Ok(());
-    }
-    let mut more = Pool::empty(alloc, 2 * budget)?;
-    more.refill(spares);
-    let _none = replace(spares, more);
-    Ok(())
 }
 
 impl Intake {
@@ -239,7 +212,8 @@ impl Intake {
             × (self.new.empties ≡ self.old.empties) × (self.new.pauses ≡ self.old.pauses) }
         ensures budget { (1 ≤ self.old.budget) × (self.old.budget ≤ 4096) }
         ensures takes { Takes self.old.blocks self.old.taken self.new.taken 0 (round_of result).blocks }
-        ensures going { IfRead result (λ read. read.end ≢ RoundEnd.GivenUp) }
+        ensures stands { IfRead result (λ read. EndsAt read.end (place_of reader.new)) }
+        ensures room { IfPaused result (λ paused. self.old.budget ≤ paused.size) }
     {
         let _ = self.pool.taken();
         let Blank {
@@ -262,25 +236,34 @@ impl Intake {
             &mut spares,
             0,
         );
-        let round = Round {
-            packets,
-            spares,
-            blocks,
-        };
         match halt {
-            Halt::Ended(end) => ReadAhead::Read(RoundRead { round, end }),
+            Halt::Ended(end) => {
+                let round = Round {
+                    packets,
+                    spares,
+                    blocks,
+                };
+                ReadAhead::Read(RoundRead { round, end })
+            }
             Halt::Lacking => {
                 let Some(head) = kept else { unreachable!() };
                 let empty = Empty {
                     takes: blocks as u64,
                 };
-                ReadAhead::Paused(Paused { round, head, empty })
+                ReadAhead::Paused(Paused {
+                    packets,
+                    spares,
+                    blocks,
+                    size: self.budget,
+                    head,
+                    empty,
+                })
             }
         }
     }
 
     /// Reads the rest of a round that was paused, from behind the header that was kept, once all blocks but its own are
-    /// home.
+    /// home. Its lists get room for as many records as a round may have, where they haven't.
     pub fn read_on<S: Source>(
         &mut self,
         paused: Paused,
@@ -306,27 +289,52 @@ impl Intake {
         ensures takes { Takes self.old.blocks self.old.taken self.new.taken paused.round.blocks result.round.blocks }
         ensures going { result.end ≢ RoundEnd.GivenUp }
     {
-        let _ = self.pool.taken();
-        let Paused {
-            round,
-            head,
-            empty: _,
-        } = paused;
-        let Round {
-            mut packets,
-            mut spares,
-            blocks,
-        } = round;
-        if make_room(self.alloc, &mut packets, &mut spares, self.budget).is_err() {
+        let mut paused = paused;
+        if paused.make_room(self.alloc, self.budget).is_err() {
             return RoundRead {
-                round: Round {
-                    packets,
-                    spares,
-                    blocks,
-                },
+                round: paused.into_round(),
                 end: RoundEnd::NoMemory,
             };
         }
+        self.go_on(paused, reader)
+    }
+
+    /// The same of one whose lists have room.
+    pub(crate) fn go_on<S: Source>(
+        &mut self,
+        paused: Paused,
+        reader: &mut CaptureReader<'_, S>,
+    ) -> RoundRead
+        requires kept { (at : Place) × (KeepsHead at (place_of reader.old) paused.head
+            × NumberedTo at.number paused.round.packets) }
+        requires link { (place_of reader.old).link ≡ Ethernet }
+        requires out { self.old.home + paused.round.blocks ≡ self.old.blocks }
+        requires fits { paused.round.blocks + need_of paused.head.captured ≤ self.old.blocks }
+        requires fewer { length paused.round.packets < self.old.budget }
+        requires room { self.old.budget ≤ paused.size }
+        ensures same_source { SameLoan reader.old reader.new }
+        ensures fills { FillsBehind self.old.blocks self.old.budget (reached S.left S.faults reader.old)
+            (reached S.left S.faults reader.new) paused.head paused.round.packets result.round.packets result.end }
+        ensures captured { AllByRecursion IsCaptured (map packet_of result.round.packets) }
+        ensures need { result.round.blocks ≡ round_need (map packet_of result.round.packets) }
+        ensures home { self.new.home + result.round.blocks ≡ self.old.blocks }
+        ensures named { (h : ℕ → ℕ) → weighed h self.new.stock + weights_of result.round h
+            ≡ weighed h self.old.stock + weights_of paused.round h }
+        ensures same { (self.new.blocks ≡ self.old.blocks) × (self.new.budget ≡ self.old.budget)
+            × (self.new.empties ≡ self.old.empties) × (self.new.pauses ≡ self.old.pauses) }
+        ensures budget { (1 ≤ self.old.budget) × (self.old.budget ≤ 4096) }
+        ensures takes { Takes self.old.blocks self.old.taken self.new.taken paused.round.blocks result.round.blocks }
+        ensures stands { EndsAt result.end (place_of reader.new) }
+    {
+        let _ = self.pool.taken();
+        let Paused {
+            mut packets,
+            mut spares,
+            blocks,
+            size: _,
+            head,
+            empty: _,
+        } = paused;
         let (blocks, end) = read_behind(
             self.alloc,
             &mut self.pool,

@@ -58,7 +58,8 @@
 //! - `given` of `read_beside` of [`Intake`]: of a round that is read while another thread works, whose blocks are
 //!   waited for, what `read_round` says. It pauses only behind the header of a record that needs more blocks than are
 //!   home, which is kept, and `pauses` counts that (`paused`): only where who brings blocks counts that it found none.
-//!   `given_up`: a paused round is given up, an end of its own, only where that thread keeps the blocks.
+//!   `given_up`: a paused round is given up, an end of its own, only where that thread keeps the blocks. `whole`: for
+//!   want of memory a round ends between two records alone, so a paused one goes on first.
 //! - `fills`, `paused`, `refused` of `read_ahead` and `fills` of `read_on` of [`Intake`], `works`, `lends` of
 //!   `work_lent` of [`Bench`]: the same by its parts, for whoever drives rounds one by one (the crate `ahead`).
 //! - `captured` of `merge_all`: the packets that are merged are such as a capture may hold, since each was read into

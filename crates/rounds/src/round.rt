@@ -1,10 +1,16 @@
 //! The records of a round, and what they come to.
-ghost use Rattle.std.specs.Prelude.{◌≡◌, ◌≢◌, ◌≤◌, ◌*◌, [], length, IfOk};
+ghost use Rattle.std.specs.Prelude.{◌≡◌, ◌≢◌, ◌≤◌, ◌*◌, [], ℕ, length, map, IfOk, OnOk};
+ghost use Rattle.std.specs.List.{AllByRecursion};
 ghost use Rattle.block_pool.specs.PoolState.{home};
+ghost use Rattle.offload_model.specs.Captured.{IsCaptured};
+ghost use Rattle.offload_model.specs.Need.{round_need};
+ghost use Rattle.gro.specs.Slots.{packet_of};
 ghost use Rattle.rounds.specs.Merging.{is_worked as is_worked_end};
 ghost use Rattle.rounds.specs.Reading.{IsEndOf};
+ghost use Rattle.rounds.specs.Weights.{weights_of};
 
 use block_pool::Pool;
+use core::mem::replace;
 use gro::Packets;
 use lanes::Lanes;
 use pcap_io::{CapFault, RecHead};
@@ -192,36 +198,101 @@ impl Empty {
 /// A round that goes on: its records so far, and the header of the next one, whose blocks weren't home. It must be
 /// spent: [`Intake::read_on`](crate::Intake::read_on) goes on behind that header.
 pub struct Paused {
-    pub round: Round,
+    pub(crate) packets: Packets,
+    /// Two blocks for each packet.
+    pub(crate) spares: Pool,
+    /// How many blocks packets and spares have together.
+    pub(crate) blocks: u32,
+    /// For how many packets there is room, and for their spares.
+    pub(crate) size: u32,
     /// That record's body comes next from the source.
     pub(crate) head: RecHead,
     /// How many blocks it had taken by then.
-    pub empty: Empty,
+    pub(crate) empty: Empty,
+}
+
+impl Model for Paused {
+    ghost use Rattle.std.specs.Prelude.{ℕ, ◌+◌, ◌*◌, ◌≤◌, length};
+    ghost use Rattle.block_pool.specs.PoolState.{home};
+    ghost use Rattle.rounds.specs.Fresh.{NumberedFrom};
+    ghost use Rattle.rounds.specs.RoundOf.{IsRoundOf};
+    ghost use Rattle.rounds.specs.RoundsState.{PausedState};
+
+    ghost Value = { PausedState };
+
+    ghost view = { λ p. record {
+      round = record { packets = p.packets.items; spares = p.spares.blocks; blocks = p.blocks };
+      head = p.head;
+      empty = p.empty;
+      size = p.size;
+    } };
+
+    ghost invariant = { λ p. IsRoundOf p.packets.items (home p.spares) p.blocks
+        × ((k : ℕ) × NumberedFrom k p.packets.items) × (p.size ≤ length p.packets.items + p.packets.room)
+        × (2 * p.size ≤ p.spares.made) };
 }
 
 impl Paused {
+    /// Its blocks, those of its spares with them.
+    pub fn blocks(&self) -> u32
+        ensures blocks { result ≡ self.now.round.blocks }
+    {
+        self.blocks
+    }
+
+    /// Why, and how many blocks it had taken by then.
+    pub fn empty(&self) -> Empty
+        ensures empty { result ≡ self.now.empty }
+    {
+        self.empty
+    }
+
+    // Room for as many records as a round may have: for their packets, and for their spares, which move where their
+    // list has fewer places.
+    pub(crate) fn make_room(&mut self, alloc: Global, budget: u32) -> Result<(), AllocError>
+        requires few { (length self.old.round.packets ≤ budget) × (budget ≤ 4096) }
+        ensures room { OnOk result (budget ≤ self.new.size) }
+        ensures same { (self.new.round.packets ≡ self.old.round.packets)
+            × (self.new.round.blocks ≡ self.old.round.blocks) × (self.new.head ≡ self.old.head) }
+        ensures read { AllByRecursion IsCaptured (map packet_of self.old.round.packets)
+            × (self.old.round.blocks ≡ round_need (map packet_of self.old.round.packets)) }
+        ensures named { (h : ℕ → ℕ) → weights_of self.new.round h ≡ weights_of self.old.round h }
+    {
+        if self.size >= budget {
+            return Ok(());
+        }
+        self.packets.reserve(budget as usize - self.packets.len())?;
+        let mut more = Pool::empty(alloc, 2 * budget)?;
+        more.refill(&mut self.spares);
+        let _none = replace(&mut self.spares, more);
+        self.size = budget;
+        Ok(())
+    }
+
     /// Its records so far, of which no more are read.
     pub fn into_round(self) -> Round
         ensures same { result ≡ self.round }
     {
         let Paused {
-            round,
+            packets,
+            spares,
+            blocks,
+            size: _,
             head: _,
             empty: _,
         } = self;
-        round
+        Round {
+            packets,
+            spares,
+            blocks,
+        }
     }
 
     /// Gives the round up outside its rounds, as [`Round::discard`].
     pub fn discard(self) -> usize
         ensures freed { result ≡ self.round.blocks }
     {
-        let Paused {
-            round,
-            head: _,
-            empty: _,
-        } = self;
-        round.discard()
+        self.into_round().discard()
     }
 }
 

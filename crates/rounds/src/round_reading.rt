@@ -1,5 +1,5 @@
 //! Reads the records of a round.
-ghost use Rattle.std.specs.Prelude.{◌≡◌, ◌≢◌, ◌+◌, ◌-◌, ◌*◌, ◌<◌, ◌≤◌, ◌^◌, [], false, true, length, min, Some, ℕ};
+ghost use Rattle.std.specs.Prelude.{◌≡◌, ◌+◌, ◌-◌, ◌*◌, ◌<◌, ◌≤◌, ◌^◌, [], false, true, length, min, Some, ℕ};
 ghost use Rattle.std.specs.VecDeque.{deque_capacity};
 ghost use Rattle.block_pool.specs.PoolState.{home, weighed};
 ghost use Rattle.pcap_io.specs.declared.heads.Link.TheVariants.{Ethernet};
@@ -9,7 +9,7 @@ ghost use Rattle.pcap_io.specs.Readers.{place_of, source_of, SameLoan};
 ghost use Rattle.offload_model.specs.Need.{need_of};
 ghost use Rattle.reading.specs.Reading.{KeepsHead};
 ghost use Rattle.rounds.specs.Filling.{reached, FillsBehind, FillsOn};
-ghost use Rattle.rounds.specs.Reading.{IsHaltOf, WaitsOver};
+ghost use Rattle.rounds.specs.Reading.{EndsAt, IfEnded, IsHaltOf, WaitsOver};
 ghost use Rattle.rounds.specs.RoundOf.{at_hand, brought_by, Came, IsHold, IsRoundOf, Takes};
 
 use crate::round::{RoundEnd, end_of};
@@ -83,7 +83,9 @@ pub(crate) fn read_more<S: Source, H: Supply>(
     ensures so_far { result.1 ≡ Halt.Lacking
         → pool.new.taken ≡ min (pool.old.taken + (result.0 - used)) (2 ^ 64 - 1) }
     ensures hold { IsHold hold.new.items (deque_capacity hold.new) }
-    ensures going { result.1 ≢ Halt.Ended RoundEnd.GivenUp }
+    ensures stands { IfEnded result.1 (λ end. EndsAt end (place_of reader.new)) }
+    ensures reserved { budget ≤ length packets.new.items + packets.new.room }
+    ensures room { 2 * budget ≤ spares.new.made }
 {
     let _ = pool.taken();
     let mut used = used;
@@ -142,7 +144,7 @@ pub(crate) fn read_behind<S: Source>(
     ensures made { pool.new.made ≡ pool.old.made }
     ensures takes { Takes pool.old.made pool.old.taken pool.new.taken used result.0 }
     ensures hold { IsHold hold.new.items (deque_capacity hold.new) }
-    ensures going { result.1 ≢ RoundEnd.GivenUp }
+    ensures stands { EndsAt result.1 (place_of reader.new) }
 {
     let mark = used - spares.home();
     let front = &mut [];

@@ -20,7 +20,7 @@ ghost use Rattle.rounds.specs.Benches.{IsRead};
 ghost use Rattle.rounds.specs.Fresh.{NumberedFrom};
 ghost use Rattle.rounds.specs.Lanes.{worked_bytes, worked_records, IsKeptWorkOf};
 ghost use Rattle.rounds.specs.Merging.{options_of};
-ghost use Rattle.rounds.specs.Reading.{GivesRound, PassesRound};
+ghost use Rattle.rounds.specs.Reading.{EndsAt, GivesRound, PassesRound};
 ghost use Rattle.rounds.specs.Weights.{weights_of, weights_left, weights_worked};
 
 use crate::bench::Bench;
@@ -173,6 +173,7 @@ impl Rounds {
         ensures taken { min (self.old.taken + result.round.blocks) (2 ^ 64 - 1) ≤ self.new.taken }
         ensures least { self.old.taken ≤ self.new.taken }
         ensures most { self.new.taken ≤ self.old.taken + self.old.blocks }
+        ensures stands { EndsAt result.end (place_of reader.new) }
         ensures later { S.faults (source_of reader.old) ≤ S.faults (source_of reader.new) }
         ensures failed { result.end ≡ RoundEnd.ReadFault
             → Rose (S.faults (source_of reader.old)) (S.faults (source_of reader.new)) }

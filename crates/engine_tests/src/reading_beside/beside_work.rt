@@ -53,7 +53,7 @@ fn turn<R: Threads + Wait + Abort + Sync, W: Works, S: Source + Send>(
         ReadAhead::Read(read) => read,
         ReadAhead::Paused(paused) => {
             pauses.0 = pauses.0.wrapping_add(1);
-            pauses.1 = pauses.1.wrapping_add(paused.empty.takes());
+            pauses.1 = pauses.1.wrapping_add(paused.empty().takes());
             read_rest(rounds, paused, reader)
         }
     }

@@ -4,7 +4,7 @@ use Rattle.skb.specs.SkbState.{buffer_bytes}
 use Rattle.pcap_io.specs.Places.{ReadsOn}
 use Rattle.offload_model.specs.Need.{data_blocks}
 use Rattle.reading.specs.declared.record.Stop.TheVariants.{NoMemory}
-use Rattle.reading.proofs.Recording.{packet_given, frame_stop_given, memory_given, never_lacking, no_stop, not_lacking, other_stop}
+use Rattle.reading.proofs.Recording.{packet_given, frame_stop_given, memory_given, never_lacking, never_memory, no_stop, not_lacking, other_stop}
 use Rattle.reading.proofs.Spending.{Takes, all_home, all_taken, puts_given, puts_none, reads_stop, spends_given, spends_none}
 use Rattle.reading.proofs.record.read_packet.Given as given
 use Rattle.reading.proofs.record.read_packet.Goals.{After-read_frame}
@@ -36,6 +36,7 @@ returns-in-Err g c =
       reads = reads_stop c.in-Err.fault c.stop_of.result c.args.reader.now.place r.reader.place _ _ _ _ stop e.reads;
       front = e.front;
       begun = never_lacking _ c.in-Err.fault c.stop_of.result refl stop;
+      whole = λ short. absurd (never_memory _ c.in-Err.fault c.stop_of.result refl stop short);
       blocks = tt;
       puts = puts_none c.args.mark c.args.len c.args.head.now c.args.packets.now c.stop_of.result;
       spends = spends_none c.stop_of.result _ (c.blocks_of-data.result - 1 + 1) _ c.args.pool.now c.take_blocks.new.pool c.put_back.new.pool c.args.spares.now c.args.packets.now
@@ -57,6 +58,7 @@ returns-in-Err-with_room g c =
       reads = record { place = tt; later = e.reads.later; failed = λ fails. absurd (other_stop _ refl fails) };
       front = e.front;
       begun = not_lacking _ refl;
+      whole = λ _. omega (arith, e.reads.place.body, c.requires.body.whole, c.requires.body.body, e.front);
       blocks = tt;
       puts = puts_none c.args.mark c.args.len c.args.head.now c.args.packets.now NoMemory;
       spends = spends_none NoMemory _ (c.blocks_of-data.result - 1 + 1) _ c.args.pool.now c.take_blocks.new.pool c.put_back-in-Err-with_room.new.pool c.args.spares.now c.args.packets.now
@@ -83,6 +85,7 @@ returns-in-Ok-with_room g c =
       reads = record { place = subst (ReadsOn c.args.reader.now.place r.reader.place) (sym c.requires.body.whole) e.reads.place; later = e.reads.later; failed = λ fails. absurd (no_stop _ _ fails) };
       front = e.front;
       begun = not_lacking _ refl;
+      whole = λ short. absurd (no_stop _ _ short);
       blocks = ap (λ (n : ℕ). n + 2) c.blocks_of-data.ensures.blocks;
       puts = puts_given _ c.args.mark c.args.len c.args.head.now (r.first ∷ r.hold.items) c.args.packets.now c.make_packet.new.packets e.bytes.long e.bytes.in_bytes m;
       spends = spends_given _ _ (c.blocks_of-data.result - 1 + 1) c.args.mark c.args.len c.args.head.now (r.first ∷ r.hold.items) c.args.pool.now c.take_blocks.new.pool c.take_to.new.self

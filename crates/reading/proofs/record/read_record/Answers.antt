@@ -1,7 +1,7 @@
 use Rattle.std.proofs.Common.{◌≡◌, ◌+◌, ◌-◌, ◌^◌, ◌≤◌, ◌∙◌, ℕ, arith, min, refl, sym, ap, subst, le_trans, le-add_left, Ok, Err}
 use Rattle.block_pool.specs.PoolState.{home}
 use Rattle.block_supply.proofs.Listing.{home_by_ones}
-use Rattle.reading.proofs.Recording.{head_stop_given, head_given, end_given, empty_given, lacking_given, record_given, none_from, keeps_head, never_lacking, entered, not_lacking, no_stop, rose_after, stop_in}
+use Rattle.reading.proofs.Recording.{head_stop_given, head_given, end_given, empty_given, lacking_given, record_given, none_from, keeps_head, never_lacking, never_memory, entered, not_lacking, not_memory, no_stop, rose_after, stop_in}
 use Rattle.pcap_io.specs.declared.heads.Link.{Link}
 use Rattle.pcap_io.specs.Headers.{is_bad_original}
 use Rattle.reading.specs.Reading.{front_size}
@@ -109,6 +109,7 @@ returns-in-Ok-finish_record g c =
       none = tt;
       kept = λ lacks. absurd (not_lacking _ refl lacks);
       unkept = λ _. refl;
+      whole = λ short. absurd (no_stop _ _ short);
       refused = λ lacks. absurd (not_lacking _ refl lacks);
       asked = more.asked;
       room = e.room;
@@ -157,6 +158,7 @@ returns-in-Err-finish_record g c =
       none = e.none;
       kept = λ lacks. absurd (e.begun (ap Err (ap stop_in lacks)));
       unkept = λ _. refl;
+      whole = λ short. e.whole (ap Err (ap stop_in short));
       refused = λ lacks. absurd (e.begun (ap Err (ap stop_in lacks)));
       asked = more.asked;
       room = e.room;
@@ -184,3 +186,15 @@ returns-in-Err-finish_record g c =
       later = le_trans r.later e.later;
       failed = λ fails. rose_after _ _ _ r.later (e.failed (ap Err (ap stop_in fails)));
     }
+
+pub returns-in-Err-clause-whole : goal.returns-in-Err-clause-whole
+returns-in-Err-clause-whole g c = λ short. absurd (never_memory _ c.in-Err.fault c.stop_of.result refl c.stop_of.ensures.stop short)
+
+pub returns-in_default-clause-whole : goal.returns-in_default-clause-whole
+returns-in_default-clause-whole g c = λ short. absurd (not_memory _ refl short)
+
+pub returns-then-need-made-clause-whole : goal.returns-then-need-made-clause-whole
+returns-then-need-made-clause-whole g c = λ short. absurd (not_memory _ refl short)
+
+pub returns-then-not-has_blocks-clause-whole : goal.returns-then-not-has_blocks-clause-whole
+returns-then-not-has_blocks-clause-whole g c = λ short. absurd (not_memory _ refl short)

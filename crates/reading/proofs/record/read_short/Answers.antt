@@ -6,7 +6,7 @@ use Rattle.reading.specs.Laid.{most_short}
 use Rattle.reading.specs.declared.record.Stop.{Stop}
 use Rattle.skb.specs.SkbState.{buffer_bytes}
 use Rattle.pcap_io.specs.Places.{ReadsOn}
-use Rattle.reading.proofs.Recording.{packet_given, frame_stop_given, never_lacking, no_stop, not_lacking}
+use Rattle.reading.proofs.Recording.{packet_given, frame_stop_given, never_lacking, never_memory, no_stop, not_lacking}
 use Rattle.reading.proofs.Spending.{one_home, one_taken, puts_given, puts_none, reads_stop, spends_given, spends_none}
 use Rattle.reading.proofs.record.read_short.Goals as goal
 
@@ -27,6 +27,7 @@ returns-in-Err g c =
       reads = reads_stop c.in-Err.fault c.stop_of.result c.args.reader.now.place r.reader.place _ _ _ _ stop e.reads;
       front = e.front;
       begun = never_lacking _ c.in-Err.fault c.stop_of.result refl stop;
+      whole = λ short. absurd (never_memory _ c.in-Err.fault c.stop_of.result refl stop short);
       blocks = tt;
       puts = puts_none c.args.mark c.args.len c.args.head.now c.args.packets.now c.stop_of.result;
       spends = spends_none c.stop_of.result _ 1 (λ h. weighed h (r.block ∷ [])) c.args.pool.now c.take_block-block.new.pool c.put.new.self c.args.spares.now c.args.packets.now
@@ -53,6 +54,7 @@ returns g c =
       reads = record { place = subst (ReadsOn c.args.reader.now.place r.reader.place) (sym c.requires.body.whole) e.reads.place; later = e.reads.later; failed = λ fails. absurd (no_stop _ _ fails) };
       front = e.front;
       begun = not_lacking _ refl;
+      whole = λ short. absurd (no_stop _ _ short);
       blocks = sym need;
       puts = subst (λ (n : ℕ). Puts {E = Stop} n c.args.len c.args.head.now c.args.packets.now c.make_short.new.packets (Ok 3)) (e.block.mark ∙ t.mark)
           (puts_given 3 r.block.mark c.args.len c.args.head.now (r.block ∷ []) c.args.packets.now c.make_short.new.packets e.bytes.long e.bytes.in_bytes m);

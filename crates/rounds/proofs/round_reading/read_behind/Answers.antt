@@ -8,13 +8,13 @@ use Rattle.gro.proofs.Weights.{weighed_last}
 use Rattle.reading.specs.Reading.{front_size, GivesKept}
 use Rattle.rounds.specs.Ahead.{GivesBehind}
 use Rattle.rounds.specs.Fresh.{NumberedFrom}
-use Rattle.rounds.specs.Reading.{GivesRest, IfEnded}
+use Rattle.rounds.specs.Reading.{EndsAt, GivesRest, IfEnded}
 use Rattle.rounds.specs.declared.round_reading.Halt.{Halt}
 use Rattle.rounds.specs.declared.round_reading.Halt.TheVariants.{Ended}
 use Rattle.rounds.specs.declared.round.RoundEnd.{RoundEnd}
 use Rattle.rounds.specs.declared.round.RoundEnd.TheVariants.{Full}
 use Rattle.rounds.proofs.Rounding.{no_front}
-use Rattle.rounds.proofs.Pausing.{behind_stop, behind_more, end_fault, end_full, end_goes, ended_same, fills_behind, numbers_behind, round_last, round_same}
+use Rattle.rounds.proofs.Pausing.{behind_stop, behind_more, end_fault, end_full, end_stands, ended_same, fills_behind, numbers_behind, round_last, round_same}
 use Rattle.std.proofs.Math.Nat.{le_trans}
 use Rattle.offload_model.specs.Need.{need_of}
 use Rattle.rounds.proofs.Counting.{all_home, few_still, fits_bare, fits_out, hand_same, none_lacking, rose_later, takes_then}
@@ -165,8 +165,11 @@ returns-clause-made g c = c.read_more-blocks.ensures.made ∙ c.in-Ok.ensures.ma
 pub returns-clause-round : goal.returns-clause-round
 returns-clause-round g c = c.read_more-blocks.ensures.round
 
-pub returns-in-Err-clause-going : goal.returns-in-Err-clause-going
-returns-in-Err-clause-going g c = end_goes c.in-Err.stop c.end_of.result c.end_of.ensures.end
+pub returns-in-Err-clause-stands : goal.returns-in-Err-clause-stands
+returns-in-Err-clause-stands g c =
+    end_stands c.in-Err.stop c.end_of.result c.finish_record.new.reader.place c.end_of.ensures.end (λ short. c.in-Err.ensures.whole (ap Err short))
 
-pub returns-clause-going : goal.returns-clause-going
-returns-clause-going g c = λ up. c.read_more-blocks.ensures.going (c.in-Ended.is ∙ ap Ended up)
+pub returns-clause-stands : goal.returns-clause-stands
+returns-clause-stands g c =
+    let r = c.read_more-blocks in
+    subst (λ (h : Halt). IfEnded h (λ (end : RoundEnd). EndsAt end r.new.reader.place)) c.in-Ended.is r.ensures.stands

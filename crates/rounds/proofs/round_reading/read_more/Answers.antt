@@ -3,11 +3,11 @@ use Rattle.block_pool.specs.PoolState.{home}
 use Rattle.off_io.specs.Told.{Told}
 use Rattle.gro.specs.declared.slot.Slot.{Slot as Packet}
 use Rattle.gro.specs.Packets.{PacketsState}
-use Rattle.rounds.specs.Reading.{GivesRest, NumbersOn, WaitsOver}
+use Rattle.rounds.specs.Reading.{EndsAt, GivesRest, NumbersOn, WaitsOver}
 use Rattle.rounds.specs.declared.round.RoundEnd.{RoundEnd}
 use Rattle.reading.specs.Reading.{front_size, GivesRecord}
 use Rattle.rounds.specs.RoundOf.{brought_by}
-use Rattle.rounds.proofs.Pausing.{came_back, came_then, full_fault, full_goes, halt_ended, halt_fault, halt_full, halt_goes, halt_lacking, lacking_full, round_last, round_same, waits_over}
+use Rattle.rounds.proofs.Pausing.{came_back, came_then, end_stands, full_fault, halt_ended, halt_fault, halt_full, halt_lacking, lacking_full, round_last, round_same, waits_over}
 use Rattle.rounds.proofs.Rounding.{no_front, so_far_none, so_far_at, so_far_more, round_stop_given, fills_round, numbers_none, numbers_more}
 use Rattle.std.proofs.Math.Nat.{le-add_right, le_trans}
 use Rattle.rounds.proofs.Counting.{came_one, fits_type, most_more, one_more, room_more, rose_later, size_more, taken_more, takes_last}
@@ -200,8 +200,15 @@ read_record-requires-clause-front g c = sym (ap front_size (c.reading.invariant.
 pub overflow_add-used : goal.overflow_add-used
 overflow_add-used g c = record { fits = fits_type c.in-Ok.ensures.fits c.reading.invariant.made c.requires.made }
 
-pub returns-in-Err-clause-going : goal.returns-in-Err-clause-going
-returns-in-Err-clause-going g c = halt_goes c.in-Err.stop c.halt_of.result c.halt_of.ensures.halt
+pub returns-in-Err-clause-stands : goal.returns-in-Err-clause-stands
+returns-in-Err-clause-stands g c =
+    let place = c.read_record.new.reader.place in
+    let stop = c.in-Err.stop in
+    halt_ended (λ (end : RoundEnd). EndsAt end place) stop c.halt_of.result c.halt_of.ensures.halt (λ end ends. end_stands stop end place ends (λ short. c.in-Err.ensures.whole (ap Err short)))
 
-pub returns-clause-going : goal.returns-clause-going
-returns-clause-going g c = full_goes
+pub returns-in-Err-clause-reserved : goal.returns-in-Err-clause-reserved
+returns-in-Err-clause-reserved g c =
+    subst (λ (ps : PacketsState). c.args.budget ≤ length ps.items + ps.room) (sym c.in-Err.ensures.none) c.reading.invariant.reserved
+
+pub returns-in-Err-clause-room : goal.returns-in-Err-clause-room
+returns-in-Err-clause-room g c = subst (λ (n : ℕ). 2 * c.args.budget ≤ n) (sym c.in-Err.ensures.made.1) c.reading.invariant.room

@@ -1,15 +1,15 @@
-use Rattle.std.proofs.Common.{◌≡◌, ◌+◌, ◌≤◌, ◌∙◌, IfOk, Ok, Option, None, Result, Some, ap, refl, sym, subst}
+use Rattle.std.proofs.Common.{◌≡◌, ◌+◌, ◌≤◌, ◌∙◌, IfOk, Ok, Option, None, Result, Some, ap, refl, sym, subst, arith}
 use Rattle.block_pool.specs.PoolState.{home, weighed}
 use Rattle.std.proofs.lemmas.Option.{same_Some}
-use Rattle.rounds.specs.Ahead.{round_of, IfRead}
+use Rattle.rounds.specs.Ahead.{round_of, IfPaused, IfRead}
 use Rattle.rounds.specs.Filling.{reached, FillsAhead}
-use Rattle.rounds.specs.Reading.{WaitsOver}
+use Rattle.rounds.specs.Reading.{EndsAt, IfEnded, WaitsOver}
 use Rattle.rounds.specs.Weights.{weights_of}
 use Rattle.rounds.specs.declared.round.ReadAhead.{ReadAhead}
-use Rattle.rounds.specs.declared.round.RoundEnd.TheVariants.{GivenUp}
-use Rattle.rounds.specs.declared.round_reading.Halt.TheVariants.{Ended}
+use Rattle.rounds.specs.declared.round.RoundEnd.{RoundEnd}
+use Rattle.rounds.specs.declared.round_reading.Halt.{Halt}
 use Rattle.rounds.specs.RoundsState.{IntakeState, RoundState}
-use Rattle.rounds.proofs.Pausing.{came_whole, ends_ahead, no_memory_goes, unread_ahead, waits_ahead}
+use Rattle.rounds.proofs.Pausing.{came_whole, ends_ahead, unread_ahead, waits_ahead}
 use Rattle.rounds.proofs.Counting.{came_read}
 use Rattle.rounds.specs.RoundOf.{brought_by, Came, Takes}
 use Rattle.rounds.specs.declared.round.Blank.{Blank}
@@ -42,12 +42,12 @@ invariant_of-round g c =
     let none = (of_blank c.args.blank c.in-Ok.blank _ c.in-Ok.is c.requires.none).0 in
     (r.ensures.round, (n, whole_numbered n c.in-Ok.blank.packets.items r.new.packets.items none r.ensures.fills.numbers))
 
-pub invariant_of-round-in-Lacking : goal.invariant_of-round-in-Lacking
-invariant_of-round-in-Lacking g c =
+pub invariant_of-result : goal.invariant_of-result
+invariant_of-result g c =
     let r = c.read_more-blocks in
     let n = c.args.reader.now.place.number in
     let none = (of_blank c.args.blank c.in-Ok.blank _ c.in-Ok.is c.requires.none).0 in
-    (r.ensures.round, (n, whole_numbered n c.in-Ok.blank.packets.items r.new.packets.items none r.ensures.fills.numbers))
+    (r.ensures.round, (n, whole_numbered n c.in-Ok.blank.packets.items r.new.packets.items none r.ensures.fills.numbers), r.ensures.reserved, r.ensures.room)
 
 pub returns-clause-fills : goal.returns-clause-fills
 returns-clause-fills g c =
@@ -65,7 +65,7 @@ returns-clause-fills g c =
       | in-Lacking+in-Some b ↦ subst (FillsAhead i.pool.made i.budget from to) (sym b.result-is)
           (
           let kept = e.lacking b.in-Lacking.is in
-          waits_ahead i.pool.made i.budget from to first (record { round = round; head = b.in-Some.head; empty = record { takes = r.result.0 } }) r.result.1 b.in-Lacking.is c.requires.ready none
+          waits_ahead i.pool.made i.budget from to first (record { round = round; head = b.in-Some.head; empty = record { takes = r.result.0 }; size = i.budget }) r.result.1 b.in-Lacking.is c.requires.ready none
           e.fills e.round.captured e.round.need
           (subst (WaitsOver from.place to.place from.left to.left first r.new.packets.items) (same_Some kept.0 b.in-Some.head (sym kept.1 ∙ b.in-Some.is)) kept.2))
     ] in
@@ -114,13 +114,23 @@ none_kept e n = cc
 pub unreachable-requires : goal.unreachable-requires
 unreachable-requires g c = none_kept (c.read_more-blocks.ensures.lacking c.in-Lacking.is).1 c.in_default.is
 
-pub returns-in-Err-clause-going : goal.returns-in-Err-clause-going
-returns-in-Err-clause-going g c = λ up. no_memory_goes (sym c.no_round.ensures.end ∙ up)
+pub returns-in-Err-clause-stands : goal.returns-in-Err-clause-stands
+returns-in-Err-clause-stands g c = subst (λ (e : RoundEnd). EndsAt e c.args.reader.now.place) (sym c.no_round.ensures.end) c.requires.ready.between
 
-pub returns-clause-going : goal.returns-clause-going
-returns-clause-going g c =
+pub returns-clause-stands : goal.returns-clause-stands
+returns-clause-stands g c =
     let r = c.read_more-blocks in
+    let place = r.new.reader.place in
     elim c.match-halt.branch [
-      | in-Ended b ↦ subst (λ (a : ReadAhead). IfRead a (λ read. read.end ≡ GivenUp → ⊥)) (sym b.result-is) (λ up. r.ensures.going (b.in-Ended.is ∙ ap Ended up))
-      | in-Lacking+in-Some b ↦ subst (λ (a : ReadAhead). IfRead a (λ read. read.end ≡ GivenUp → ⊥)) (sym b.result-is) tt
+      | in-Ended b ↦ subst (λ (a : ReadAhead). IfRead a (λ read. EndsAt read.end place)) (sym b.result-is)
+          (subst (λ (h : Halt). IfEnded h (λ (end : RoundEnd). EndsAt end place)) b.in-Ended.is r.ensures.stands)
+      | in-Lacking+in-Some b ↦ subst (λ (a : ReadAhead). IfRead a (λ read. EndsAt read.end place)) (sym b.result-is) tt
+    ]
+
+pub returns-clause-room : goal.returns-clause-room
+returns-clause-room g c =
+    let budget = ap (λ (i : IntakeState). i.budget) c.self.view_is in
+    elim c.match-halt.branch [
+      | in-Ended b ↦ subst (λ (a : ReadAhead). IfPaused a (λ p. c.args.self.now.budget ≤ p.size)) (sym b.result-is) tt
+      | in-Lacking+in-Some b ↦ subst (λ (a : ReadAhead). IfPaused a (λ p. c.args.self.now.budget ≤ p.size)) (sym b.result-is) (omega (arith, budget))
     ]

@@ -12,20 +12,20 @@ use Rattle.rounds.specs.Weights.{weights_of}
 use Rattle.rounds.specs.declared.round.ReadAhead.TheVariants.{Read}
 use Rattle.rounds.specs.declared.round.RoundEnd.TheVariants.{GivenUp}
 use Rattle.rounds.proofs.Counting.{came_on}
-use Rattle.rounds.proofs.Pausing.{came_then, given_up_behind, rest_ahead}
+use Rattle.rounds.proofs.Pausing.{came_then, given_up_behind, memory_between, never_given_up, no_memory_goes, rest_ahead}
 use Rattle.rounds.proofs.intake.Intake.read_beside.Given as given
-use Rattle.rounds.proofs.intake.Intake.read_beside.Goals.{After-bring_rest, After-into_round, After-read_on}
+use Rattle.rounds.proofs.intake.Intake.read_beside.Goals.{After-bring_rest, After-into_round, After-go_on}
 use Rattle.rounds.proofs.intake.Intake.read_beside.Goals as goal
 
 -- where all other blocks came home, what the round and its rest come to
-fills_on : (g : given.Over) (c : After-read_on g) → FillsAhead c.args.self.now.blocks c.args.self.now.budget (reached g.S.Source.left g.S.Source.faults c.args.reader.now)
-    (reached g.S.Source.left g.S.Source.faults c.read_on.new.reader) (Read c.read_on.result)
+fills_on : (g : given.Over) (c : After-go_on g) → FillsAhead c.args.self.now.blocks c.args.self.now.budget (reached g.S.Source.left g.S.Source.faults c.args.reader.now)
+    (reached g.S.Source.left g.S.Source.faults c.go_on.new.reader) (Read c.go_on.result)
 fills_on g c =
     let u = c.read_ahead-ahead in
     let f = c.in-Paused.ensures.fills in
     let p = c.in-Paused.paused in
     let b = c.bring_rest in
-    let r = c.read_on in
+    let r = c.go_on in
     let mid = reached g.S.Source.left g.S.Source.faults u.new.reader in
     let to = reached g.S.Source.left g.S.Source.faults r.new.reader in
     rest_ahead c.args.self.now.blocks c.args.self.now.budget (reached g.S.Source.left g.S.Source.faults c.args.reader.now) mid to p r.result f.waits f.reads.numbers f.later
@@ -33,44 +33,44 @@ fills_on g c =
     (subst (λ (n : ℕ). FillsBehind b.new.self.blocks n mid to p.head p.round.packets r.result.round.packets r.result.end) (b.ensures.same.2 ∙ u.ensures.same.1) r.ensures.fills)) r.ensures.captured
     r.ensures.need
 
-came_on_home : (g : given.Over) (c : After-read_on g) → Came (brought_by g.H.Supply.weights g.H.Supply.refusals c.args.more.now) (brought_by g.H.Supply.weights g.H.Supply.refusals c.bring_rest.new.more) c.args.self.now.home
-    (c.read_on.new.self.home + c.read_on.result.round.blocks) (λ h. weighed h c.args.self.now.stock) (λ h. weighed h c.read_on.new.self.stock + weights_of c.read_on.result.round h)
+came_on_home : (g : given.Over) (c : After-go_on g) → Came (brought_by g.H.Supply.weights g.H.Supply.refusals c.args.more.now) (brought_by g.H.Supply.weights g.H.Supply.refusals c.bring_rest.new.more) c.args.self.now.home
+    (c.go_on.new.self.home + c.go_on.result.round.blocks) (λ h. weighed h c.args.self.now.stock) (λ h. weighed h c.go_on.new.self.stock + weights_of c.go_on.result.round h)
 came_on_home g c =
     let b = c.bring_rest in
-    let r = c.read_on in
+    let r = c.go_on in
     let p = c.in-Paused.paused.round in
     let out = ap (λ (n : ℕ). b.new.self.home + n) (sym c.blocks-used.ensures.blocks) ∙ b.ensures.all c.if-bring_rest.true ∙ sym b.ensures.same.0 in
     came_then _ _ _ _ _ _ _ _ _ c.in-Paused.ensures.came
     (came_on _ _ c.read_ahead-ahead.new.self.home b.new.self.home r.new.self.home p.blocks r.result.round.blocks (λ h. weighed h c.read_ahead-ahead.new.self.stock) (λ h. weighed h b.new.self.stock)
     (λ h. weighed h r.new.self.stock) (weights_of p) (weights_of r.result.round) b.ensures.came (r.ensures.home ∙ sym out) r.ensures.named)
 
-pub read_on-requires-clause-kept : goal.read_on-requires-clause-kept
-read_on-requires-clause-kept g c =
+pub go_on-requires-clause-kept : goal.go_on-requires-clause-kept
+go_on-requires-clause-kept g c =
     let w = c.in-Paused.ensures.fills.waits in
     (w.at, (w.keeps, w.numbers))
 
-pub read_on-requires-clause-out : goal.read_on-requires-clause-out
-read_on-requires-clause-out g c =
+pub go_on-requires-clause-out : goal.go_on-requires-clause-out
+go_on-requires-clause-out g c =
     let b = c.bring_rest in
     ap (λ (n : ℕ). b.new.self.home + n) (sym c.blocks-used.ensures.blocks) ∙ b.ensures.all c.if-bring_rest.true ∙ sym b.ensures.same.0
 
-pub read_on-requires-clause-fits : goal.read_on-requires-clause-fits
-read_on-requires-clause-fits g c =
+pub go_on-requires-clause-fits : goal.go_on-requires-clause-fits
+go_on-requires-clause-fits g c =
     let p = c.in-Paused.paused in
     subst (λ (n : ℕ). p.round.blocks + need_of p.head.captured ≤ n) (sym (c.bring_rest.ensures.same.0 ∙ c.read_ahead-ahead.ensures.same.0)) c.in-Paused.ensures.paused.fits
 
-pub read_on-requires-clause-fewer : goal.read_on-requires-clause-fewer
-read_on-requires-clause-fewer g c =
+pub go_on-requires-clause-fewer : goal.go_on-requires-clause-fewer
+go_on-requires-clause-fewer g c =
     subst (λ (n : ℕ). length c.in-Paused.paused.round.packets < n) (sym (c.bring_rest.ensures.same.2 ∙ c.read_ahead-ahead.ensures.same.1)) c.in-Paused.ensures.fills.waits.fewer
 
 pub returns-then-bring_rest : goal.returns-then-bring_rest
 returns-then-bring_rest g c =
-    let at = (goal.at.returns-then-bring_rest g c).After-read_on in
+    let at = (goal.at.returns-then-bring_rest g c).After-go_on in
     let f = fills_on g at in
     let came = came_on_home g at in
     let u = c.read_ahead-ahead.ensures in
     let b = c.bring_rest.ensures in
-    let r = c.read_on.ensures in
+    let r = c.go_on.ensures in
     record {
       same_source = r.same_source ∙ u.same_source;
       given = f.given;
@@ -91,7 +91,8 @@ returns-then-bring_rest g c =
       taken = omega (arith, c.in-Paused.ensures.takes.taken, r.takes.taken, r.takes.least.0, b.same.1);
       least = omega (arith, c.in-Paused.ensures.takes.least.1, r.takes.least.1, b.same.1);
       later = f.later;
-      given_up = λ up. absurd (r.going up);
+      given_up = λ up. absurd (never_given_up c.go_on.result.end _ r.stands up);
+      whole = memory_between c.go_on.result.end _ r.stands;
       failed = f.failed;
     }
 
@@ -137,8 +138,15 @@ returns g c =
       least = omega (arith, e.takes.least.1, b.same.1);
       later = f.later;
       given_up = λ up. b.ended c.if-bring_rest.false;
+      whole = λ short. absurd (no_memory_goes (sym short));
       failed = f.failed;
     }
 
 pub returns-in-Read-clause-given_up : goal.returns-in-Read-clause-given_up
-returns-in-Read-clause-given_up g c = λ up. absurd (c.in-Read.ensures.going up)
+returns-in-Read-clause-given_up g c = λ up. absurd (never_given_up c.in-Read.read.end _ c.in-Read.ensures.stands up)
+
+pub returns-in-Read-clause-whole : goal.returns-in-Read-clause-whole
+returns-in-Read-clause-whole g c = memory_between c.in-Read.read.end _ c.in-Read.ensures.stands
+
+pub go_on-requires-clause-room : goal.go_on-requires-clause-room
+go_on-requires-clause-room g c = omega (arith, c.in-Paused.ensures.room, c.bring_rest.ensures.same.2, c.read_ahead-ahead.ensures.same.1)
