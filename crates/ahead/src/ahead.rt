@@ -18,14 +18,14 @@ ghost use Rattle.gro.specs.Slots.{packet_of};
 ghost use Rattle.lanes.specs.Lanes.{IsMerged};
 ghost use Rattle.reading.specs.Reading.{KeepsHead};
 ghost use Rattle.rounds.specs.Ahead.{round_of, GivesBehind, IfPaused, IfRead, Lacks, ReadsAhead, Waits};
-ghost use Rattle.rounds.specs.Benches.{options_at, IsLent, LendsWork};
+ghost use Rattle.rounds.specs.Benches.{options_at, GivesSpares, IsLent, LendsWork};
 ghost use Rattle.rounds.specs.Filling.{reached, FillsAhead};
 ghost use Rattle.rounds.specs.Lanes.{worked_records, IsKeptWorkOf, WorksAs};
 ghost use Rattle.rounds.specs.Merging.{options_of};
 ghost use Rattle.rounds.specs.Reading.{FillsRound, GivesRound, NumberedTo, NumbersOn};
 ghost use Rattle.rounds.specs.RoundOf.{Came, Takes};
 ghost use Rattle.rounds.specs.Weights.{weights_of, weights_left};
-ghost use Rattle.ahead.specs.Out.{blocks_out, brought_listed, weights_out};
+ghost use Rattle.ahead.specs.Out.{blocks_out, brought_listed, weights_out, GaveWorked};
 
 use crate::lists::{ListName, NextLists};
 use block_pool::Giver;
@@ -73,6 +73,8 @@ fn work_beside<'a, R: Threads + Wait + Sync, N: ListName + Send, W: Works, S: So
     ensures works { WorksAs (options_at bench.old) bench.old.keep (map packet_of round.old.packets) result.1 }
     ensures lends { LendsWork round.old.blocks (weights_of round.old) giver.old giver.new result.1 }
     ensures spent { (round.new.packets ≡ []) × (round.new.spares ≡ []) }
+    ensures gives_spares { W.gives ≡ true
+        → IfOk result.1 (λ _. GivesSpares (length round.old.spares) giver.old giver.new) }
     ensures same { bench.new ≡ bench.old }
 {
     join_mut(
@@ -110,6 +112,8 @@ fn work_beside<'a, R: Threads + Wait + Sync, N: ListName + Send, W: Works, S: So
             ensures lends { LendsWork round.entry.now.blocks (weights_of round.entry.now) giver.entry.now
                 giver.exit.now result }
             ensures spent { (round.exit.now.packets ≡ []) × (round.exit.now.spares ≡ []) }
+            ensures gives_spares { W.gives ≡ true
+                → IfOk result (λ _. GivesSpares (length round.entry.now.spares) giver.entry.now giver.exit.now) }
             ensures same { bench.exit.now ≡ bench.entry.now }
         { bench.work_lent(rt, works, round, giver) },
     )
@@ -151,6 +155,8 @@ fn work_listed<N: ListName + Send, R: Threads + Wait + Sync, W: Works, S: Source
     requires ungiven { (giver.pass.parts ≡ 65535) × (giver.pass.put ≡ []) × (home giver.list ≡ 0) }
     ensures works { WorksAs (options_of rounds.old) rounds.old.keep (map packet_of round.packets) result.0 }
     ensures worked { IfOk result.0 (λ worked. worked.blocks ≤ round.blocks) }
+    ensures gives { W.gives ≡ true → IfOk result.0 (GaveWorked (length round.spares) round.blocks
+        rounds.old.spares.refused rounds.new.spares.refused result.1) }
     ensures same_source { SameLoan reader.old reader.new }
     ensures fills { FillsAhead rounds.old.blocks rounds.old.budget (reached S.left S.faults reader.old)
         (reached S.left S.faults reader.new) result.1 }
@@ -185,7 +191,7 @@ fn work_listed<N: ListName + Send, R: Threads + Wait + Sync, W: Works, S: Source
         taker,
         of: _,
     } = more;
-    bring_lists(rt, intake, taker, giver);
+    rounds.spares.refuse(bring_lists(rt, intake, taker, giver));
     (close_work(rounds, worked), read)
 }
 
@@ -193,7 +199,8 @@ fn work_listed<N: ListName + Send, R: Threads + Wait + Sync, W: Works, S: Source
 /// of its own. A lane's part of the spares comes home as soon as it was worked, as a list; all other blocks of the
 /// round stay out. So the next one is paused where it needs more blocks behind a record's header than are home, and
 /// a take found no list of them: that header is kept. For want of memory for two sides the round is worked all the
-/// same, and of the next one nothing is read.
+/// same, and of the next one nothing is read. By who gives (`Works::gives`) all spares come home, unless a put found no
+/// place, which [`Rounds::spares`] counts.
 pub fn work_and_read<R: Threads + Wait + Sync, W: Works, S: Source + Send>(
     rounds: &mut Rounds,
     rt: &R,
@@ -210,6 +217,8 @@ pub fn work_and_read<R: Threads + Wait + Sync, W: Works, S: Source + Send>(
         (λ worked. IsKeptWorkOf (options_of rounds.old) (map packet_of round.packets) worked) }
     ensures merged { IfOk result.0 (λ worked. All IsMerged worked.lanes.queues.items) }
     ensures worked { IfOk result.0 (λ worked. worked.blocks ≤ round.blocks) }
+    ensures gives { W.gives ≡ true → IfOk result.0 (GaveWorked (length round.spares) round.blocks
+        rounds.old.spares.refused rounds.new.spares.refused result.1) }
     ensures same_source { SameLoan reader.old reader.new }
     ensures given { IfRead result.1 (λ read. Told (S.left (source_of reader.old)) (S.left (source_of reader.new))
         (GivesRound rounds.old.blocks (place_of reader.old) (place_of reader.new) read.round.packets read.end)) }

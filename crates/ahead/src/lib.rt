@@ -9,6 +9,8 @@
 //! - `given`, `reads`, `waits`, `paused`, `rose` of [`work_and_read`]: what is said of working a round, and of reading
 //!   the next, is what `rounds` says of both; the read pauses only behind the header of a record that needs more blocks
 //!   than are home, and only where a take found no list of them, which `empties` counts; the header is kept.
+//! - `gives` of [`work_and_read`]: the round's spares come home while it is worked, by who gives, unless a put found no
+//!   place, which is counted, or there was no memory for a second side.
 //! - `home`, `named`: no block is lost between the two, nor exchanged, whatever both came to.
 //! - `given` of [`read_rest`]: what such a round comes to in the end, over all of its records.
 //! - `taken`, `most`: `taken` rises by the blocks of what was read at least, and by as many as all blocks at most.

@@ -159,6 +159,7 @@ fresh o rounds = record {
   taken = 0;
   empties = 0;
   pauses = 0;
+  spares = record { lent = 0; given = 0; refused = 0 };
   budget = o.budget;
   plan = plan_of o;
   keep = true;

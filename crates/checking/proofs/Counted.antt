@@ -199,6 +199,7 @@ all_checked old new from to before after end first last start h =
           (subst (λ (t : ℕ). Told from.left to.left (TakesTo old.blocks old.budget from.place t to.taken (ending_of end))) first counted.taken);
       least = h.rests.least;
       pauses = h.rests.pauses;
+      gives = h.rests.gives;
       later = h.rests.later;
       read = counted.read;
     }

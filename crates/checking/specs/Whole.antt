@@ -6,7 +6,7 @@ use Rattle.off_io.specs.Told.{Told}
 use Rattle.check_totals.specs.Counts.{Counts, HasLanes, IsWithin}
 use Rattle.check_totals.specs.Checking.{counting}
 use Rattle.check_totals.specs.Tallies.{Tallies}
-use Rattle.rounds.specs.Handled.{FewPauses}
+use Rattle.rounds.specs.Handled.{FewPauses, GaveSpares}
 use Rattle.rounds.specs.Merging.{options_of, TakesTo}
 use Rattle.rounds.specs.RoundsState.{RoundsState}
 use Rattle.rounds.specs.Reads.{Spot}
@@ -27,5 +27,6 @@ pub record Checked (old new : RoundsState) (from to : Spot) (before after : Coun
       (TakesTo old.blocks old.budget from.place old.taken new.taken (ending_of end))
   pub least : old.taken ≤ new.taken
   pub pauses : FewPauses old.empties old.pauses new.empties new.pauses
+  pub gives : GaveSpares old.spares new.spares
   pub later : from.faults ≤ to.faults
   pub read : end ≡ ends.ReadFault → Rose from.faults to.faults

@@ -1,5 +1,5 @@
 //! Checks the records of a capture, round by round.
-ghost use Rattle.std.specs.Prelude.{◌≡◌, ℕ, ◌+◌, ◌-◌, ◌≤◌, ◌^◌, [], List, map, min, true, IfOk, OnOk};
+ghost use Rattle.std.specs.Prelude.{◌≡◌, ℕ, ◌+◌, ◌-◌, ◌≤◌, ◌^◌, [], List, length, map, min, true, IfOk, OnOk};
 ghost use Rattle.block_pool.specs.PoolState.{weighed};
 ghost use Rattle.off_io.specs.Faults.{Rose};
 ghost use Rattle.off_io.specs.Told.{Told};
@@ -12,7 +12,7 @@ ghost use Rattle.checking.specs.Compared.{compared_work, MayCompareWork};
 ghost use Rattle.check_totals.specs.Counts.{added, round_totals, totals_of, HasLanes, IsWithin};
 ghost use Rattle.check_totals.specs.Checking.{counting};
 ghost use Rattle.check_totals.specs.Tallies.{Tallies};
-ghost use Rattle.rounds.specs.Benches.{options_at, Brings, MayBring};
+ghost use Rattle.rounds.specs.Benches.{options_at, Brings, GivesSpares, MayBring};
 ghost use Rattle.rounds.specs.Lanes.{IsKeptWorkOf};
 ghost use Rattle.rounds.specs.Merging.{options_of, TakesTo};
 ghost use Rattle.rounds.specs.Weights.{weights_worked};
@@ -70,6 +70,7 @@ fn count_round<W: Works>(
     ensures ok { OnOk result (totals.new ≡ added totals.old
         (round_totals (options_at bench.old) (map packet_of round.packets))) }
     ensures home { IsCounted round bench.old bench.new home.old home.new giver.old giver.new totals.old totals.new }
+    ensures gives_spares { W.gives ≡ true → OnOk result (GivesSpares (length round.spares) giver.old giver.new) }
 {
     let worked = bench.work_round(works, round, home, giver)?;
     let counted = compare_round(bench, home, worked)?;

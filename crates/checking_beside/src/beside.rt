@@ -9,6 +9,7 @@ ghost use Rattle.pcap_io.specs.Readers.{place_of, source_of, SameLoan};
 ghost use Rattle.check_totals.specs.Counts.{totals_of, HasLanes, IsWithin};
 ghost use Rattle.check_totals.specs.Checking.{counting};
 ghost use Rattle.check_totals.specs.Tallies.{Tallies};
+ghost use Rattle.rounds.specs.Handled.{GaveSpares};
 ghost use Rattle.rounds.specs.Merging.{options_of, TakesTo};
 ghost use Rattle.checking.specs.Handling.{ending_of};
 
@@ -55,6 +56,7 @@ pub fn check_beside<R: Threads + Wait + Sync, S: Source + Send, G: Gate + Sync>(
     ensures least { rounds.old.taken ≤ rounds.new.taken }
     ensures pauses { (rounds.old.pauses ≤ rounds.new.pauses)
         × (min (rounds.old.empties + (rounds.new.pauses - rounds.old.pauses)) (2 ^ 64 - 1) ≤ rounds.new.empties) }
+    ensures gives { GaveSpares rounds.old.spares rounds.new.spares }
     ensures later { S.faults (source_of reader.old) ≤ S.faults (source_of reader.new) }
     ensures read { result ≡ CheckEnd.ReadFault → Rose (S.faults (source_of reader.old))
         (S.faults (source_of reader.new)) }

@@ -1,5 +1,5 @@
 -- What rounds took, behind a file header.
-use Rattle.std.proofs.Common.{◌-◌, ℕ, List, Option, Some, None, Ok}
+use Rattle.std.proofs.Common.{ℕ, List, Option, Some, None, Ok}
 use Rattle.off_io.specs.Told.{Told}
 use Rattle.pcap_io.specs.declared.heads.FileHead.{FileHead}
 use Rattle.pcap_io.specs.declared.heads.Link.{Link}

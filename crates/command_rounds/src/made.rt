@@ -18,6 +18,7 @@ pub fn make_rounds(alloc: Global, options: MergeOptions, keep: bool) -> Result<R
       taken = 0;
       empties = 0;
       pauses = 0;
+      spares = record { lent = 0; given = 0; refused = 0 };
       budget = options.budget;
       plan = plan_of options;
       keep = keep;

@@ -1,7 +1,9 @@
 -- A giver is divided among tasks, and comes together again.
-use Rattle.std.proofs.Common.{◌≡◌, ℕ, ◌≤◌, ◌-◌, ◌^◌, min, List, [], ◌∷◌, ◌++◌, length, append_assoc, append-nil, refl, sym, ap, ◌∙◌, subst, arith}
+use Rattle.std.proofs.Common.{◌≡◌, ℕ, ◌+◌, ◌*◌, ◌/◌, ◌%◌, ◌<◌, ◌≤◌, ◌-◌, ◌^◌, ◌⊎◌, inl, inr, min, List, [], ◌∷◌, ◌++◌, length, append_assoc, append-nil, refl, sym, ap, ◌∙◌, subst, arith}
 use Rattle.std.proofs.lemmas.List.Sums.{sum_by-append, sum_by-cons}
-use Rattle.std.specs.Prelude.{Option, None, Some, MatchOption}
+use Rattle.std.proofs.Math.Nat.{add-mul, div-le_self, mod-lt, mul-le-mul_left}
+use Rattle.std.proofs.lemmas.Nat.{div-add-mod'}
+use Rattle.std.specs.Prelude.{Option, None, Some, MatchOption, Result, Ok, Err, IfOk, MatchResult}
 use Rattle.std.specs.List.{sum_by, AllByRecursion}
 use Rattle.raw_block.specs.Views.{SoleState}
 use Rattle.block_pool.specs.Listed.{listed}
@@ -14,7 +16,7 @@ use Rattle.lane_crew.specs.declared.tasks.LaneTask.{LaneTask}
 use Rattle.lane_crew.specs.declared.tasks.LaneTask.TheVariants as asked
 use Rattle.lane_crew.specs.declared.tasks.LaneDone.{LaneDone}
 use Rattle.lane_crew.specs.declared.tasks.LaneDone.TheVariants as answered
-use Rattle.lane_crew.specs.Givers.{found, given_of, lying_of, blocks_of, fulls_of, parts_of, part_of, carried, back_of, returned, IsAlike, HasRoom, IsDivided, Divided, MayJoin, Rejoined}
+use Rattle.lane_crew.specs.Givers.{carried_in, found, given_of, lying_of, blocks_of, fulls_of, parts_of, part_of, carried, back_of, returned, IsAlike, HasRoom, IsDivided, Divided, MayJoin, Rejoined, Carries, HasShare, HaveShares, IsLess}
 use Rattle.lane_crew.specs.Tasks.{DidLane}
 use Rattle.lanes.proofs.Listing.{all_behind}
 
@@ -229,6 +231,80 @@ pub divided_maybe : (old : Option GiverState) (own now : GiverState) (part : Opt
     → MatchOption part (now ≡ own) (λ p. Split own p now) → Divided old (Some own) away → Divided old (Some now) (away ++ found part)
 divided_maybe old own now None away e d = subst (λ z. Divided old (Some z) (away ++ [])) (sym e) (subst (Divided old (Some own)) (sym (append-nil away)) d)
 divided_maybe old own now (Some part) away s d = divided_part old own part now away s d
+
+-- ---- of the list each has an even share
+
+pub share_is : (lying d n : ℕ) → 0 < d → n ≡ min (lying / d) lying → lying < (n + 1) * d
+share_is lying d n some is =
+    let whole = div-add-mod' lying d in
+    let rest : lying % d < d = mod-lt lying some in
+    let q : n ≡ lying / d = omega (arith, is, div-le_self lying d) in
+    let grows : n * d ≡ lying / d * d = ap (λ (k : ℕ). k * d) q in
+    grind (arith, whole, rest, grows, add-mul n 1 d)
+
+share_more : (here part : Option GiverState) (m n : ℕ) → m ≤ n → HasShare m here part → HasShare n here part
+share_more None part m n le h = tt
+share_more (Some g) part m n le (inl few) = inl (omega (arith, few, mul-le-mul_left (carried_in part + 1) le))
+share_more (Some g) part m n le (inr none) = inr none
+
+share_less : (n : ℕ) (here now part : Option GiverState) → IsLess here now → HasShare n here part → HasShare n now part
+share_less n None now part less h = subst (λ z. HasShare n z part) (sym less) tt
+share_less n (Some g) now part less h = subst (λ z. HasShare n z part) (sym less.1) (by_less h)
+  where
+    by_less : (home g.list < (carried_in part + 1) * n) ⊎ (g.pass.parts ≤ 1) → (home less.0.list < (carried_in part + 1) * n) ⊎ (less.0.pass.parts ≤ 1)
+    by_less (inl few) = inl (omega (arith, few, less.2))
+    by_less (inr none) = inr (omega (arith, none, less.3))
+
+shares_less : (n : ℕ) (here now : Option GiverState) (ts : List LaneTask) → IsLess here now → HaveShares n here ts → HaveShares n now ts
+shares_less n here now [] less h = tt
+shares_less n here now (t ∷ ts) less h = (share_less n here now (part_of t) less h.0, shares_less n here now ts less h.1)
+
+-- a task went away, one of m
+pub shares_sent : (m n : ℕ) (here now part : Option GiverState) (ts us : List LaneTask) (t : LaneTask) → m ≤ n → us ≡ ts ++ t ∷ [] → part_of t ≡ part → Carries m here now part
+    → HaveShares n here ts → HaveShares n now us
+shares_sent m n here now part ts us t le behind e c h =
+    subst (HaveShares n now) (sym behind)
+    (all_behind (λ x. HasShare n now (part_of x)) ts (t ∷ []) (shares_less n here now ts c.less h)
+    (subst (HasShare n now) (sym e) (share_more now part m n le c.share), tt))
+
+-- none did
+pub shares_is : (n : ℕ) (here now : Option GiverState) (ts us : List LaneTask) → now ≡ here → us ≡ ts → HaveShares n here ts → HaveShares n now us
+shares_is n here now ts us e f h = subst (λ z. HaveShares n z us) (sym e) (subst (HaveShares n here) (sym f) h)
+
+-- what one task is given, of a giver that lies there
+pub part_is : (n : ℕ) (own now : GiverState) (part : Option GiverState) → MatchOption part (now ≡ own) (λ p. Split own p now)
+    → (home own.list < (carried_in part + 1) * n) ⊎ (own.pass.parts ≤ 1) → Carries n (Some own) (Some now) part
+part_is n own now part split even = record {
+  divided = λ old away d. divided_maybe old own now part away split d;
+  share = has even;
+  less = (now, refl, lists part split, parts part split);
+}
+  where
+    lists : (p : Option GiverState) → MatchOption p (now ≡ own) (λ q. Split own q now) → home now.list ≤ home own.list
+    lists None e = omega (arith, ap (λ (z : GiverState). home z.list) e)
+    lists (Some q) s = omega (arith, s.list)
+
+    parts : (p : Option GiverState) → MatchOption p (now ≡ own) (λ q. Split own q now) → now.pass.parts ≤ own.pass.parts
+    parts None e = omega (arith, ap (λ (z : GiverState). z.pass.parts) e)
+    parts (Some q) s = omega (arith, s.parts)
+
+    has : (home own.list < (carried_in part + 1) * n) ⊎ (own.pass.parts ≤ 1) → (home now.list < (carried_in part + 1) * n) ⊎ (now.pass.parts ≤ 1)
+    has (inl few) = inl (omega (arith, few, lists part split))
+    has (inr none) = inr (omega (arith, none, parts part split))
+
+pub parts_are : {E : Type 0} (n : ℕ) (own now : GiverState) (here : Option GiverState) (result : Result (Option GiverState) E) → here ≡ Some own
+    → MatchResult result (λ part. MatchOption part (now ≡ own) (λ p. Split own p now)) (λ _. now ≡ own) → IfOk result (λ part. (home own.list < (carried_in part + 1) * n) ⊎ (own.pass.parts ≤ 1))
+    → MatchResult result (Carries n here (Some now)) (λ _. Some now ≡ here)
+parts_are n own now here (Ok part) is split even = subst (λ z. Carries n z (Some now) part) (sym is) (part_is n own now part split even)
+parts_are n own now here (Err error) is same even = ap (λ (z : GiverState). Some z) same ∙ sym is
+
+-- or of none
+pub part_none : (n : ℕ) (here : Option GiverState) → here ≡ None → Carries n here here None
+part_none n here is = subst (λ z. Carries n z z None) (sym is) (record {
+  divided = λ old away d. subst (Divided old None) (sym (append-nil away)) d;
+  share = tt;
+  less = refl;
+})
 
 -- a task went away, and what it carries
 pub divided_sent : (old here now part : Option GiverState) (ts us : List LaneTask) (t : LaneTask) → us ≡ ts ++ t ∷ [] → part_of t ≡ part

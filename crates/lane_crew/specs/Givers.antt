@@ -1,5 +1,5 @@
 -- A giver that is divided among tasks: what is at hand of it, and what is away.
-use Rattle.std.specs.Prelude.{ℕ, ◌≡◌, ◌+◌, ◌-◌, ◌^◌, ◌≤◌, min, Option, None, Some}
+use Rattle.std.specs.Prelude.{ℕ, ◌≡◌, ◌⊎◌, ◌+◌, ◌-◌, ◌*◌, ◌^◌, ◌<◌, ◌≤◌, min, Option, None, Some}
 use Rattle.std.specs.Prelude.{List, [], ◌∷◌, ◌++◌, length}
 use Rattle.std.specs.List.{sum_by, AllByRecursion}
 use Rattle.raw_block.specs.Views.{SoleState}
@@ -71,6 +71,34 @@ abbrev pub Divided : Option GiverState → Option GiverState → List GiverState
 Divided None here away = (here ≡ None) × (away ≡ [])
 Divided (Some g) None away = ⊥
 Divided (Some g) (Some here) away = IsDivided g here away
+
+-- ---- how it is divided
+
+-- the blocks that a task carries
+abbrev pub carried_in : Option GiverState → ℕ
+carried_in None = 0
+carried_in (Some g) = home g.list
+
+-- evenly divided among n, what stays at hand is no more than this part; or no part of the pass is left for another
+abbrev pub HasShare : ℕ → Option GiverState → Option GiverState → Type 0
+HasShare n None part = Unit {0}
+HasShare n (Some here) part = (home here.list < (carried_in part + 1) * n) ⊎ (here.pass.parts ≤ 1)
+
+abbrev pub HaveShares : ℕ → Option GiverState → List LaneTask → Type 0
+HaveShares n here ts = AllByRecursion (λ t. HasShare n here (part_of t)) ts
+
+-- there is no more at hand than there was
+abbrev pub IsLess : Option GiverState → Option GiverState → Type 0
+IsLess None now = now ≡ None
+IsLess (Some g) now = (g' : GiverState) × (now ≡ Some g') × (home g'.list ≤ home g.list)
+    × (g'.pass.parts ≤ g.pass.parts)
+
+-- one of n tasks that are still to go was given this part, or none
+pub record Carries (n : ℕ) (here now part : Option GiverState) : Type 0 where
+  pub divided : (old : Option GiverState) (away : List GiverState) → Divided old here away
+      → Divided old now (away ++ found part)
+  pub share : HasShare n now part
+  pub less : IsLess here now
 
 -- one of those that are away may come back
 abbrev pub MayReturn : Option GiverState → List GiverState → Type 0

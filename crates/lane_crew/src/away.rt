@@ -1,11 +1,12 @@
 //! Lanes go away as tasks, and come back to their places.
-ghost use Rattle.std.specs.Prelude.{◌≡◌, ◌+◌, ◌≤◌, [], length, List, All, IfSome, Option};
+ghost use Rattle.std.specs.Prelude.{◌≡◌, ◌+◌, ◌≤◌, [], length, max, ℕ, List, All, IfSome, MatchOption, Option};
 ghost use Rattle.std.specs.List.{AllByRecursion};
 ghost use Rattle.std.specs.VecDeque.{deque_len, deque_capacity};
 ghost use Rattle.errands.specs.Answers.{EachDid};
 ghost use Rattle.block_pool.specs.Giving.{GiverState};
 ghost use Rattle.lanes.specs.Filling.{AreReady};
-ghost use Rattle.lane_crew.specs.Givers.{back_of, carried, returned, Divided, MayJoin, MayReturn, Rejoined};
+ghost use Rattle.lane_crew.specs.Givers.{back_of, carried, returned, Carries, Divided, HaveShares, MayJoin};
+ghost use Rattle.lane_crew.specs.Givers.{MayReturn, Rejoined};
 ghost use Rattle.lanes.specs.Lanes.{IsFilled, IsTapReady};
 ghost use Rattle.lane_crew.specs.Tasks.{DidLane, SentQueues, SentTaps, Away, HasPlace, IsPlaced, IsPut};
 ghost use Rattle.lanes.specs.Work.{Did};
@@ -65,6 +66,17 @@ fn take_tap(lane: &mut TapLane) -> TapLane
     replace(lane, idle)
 }
 
+// What the task of a queue that is at work carries. None where it isn't at work, or where there is no memory for its
+// part: then it is no task.
+fn part_if(is_at_work: bool, giver: &mut Option<Giver>, among: usize) -> Option<Option<Giver>>
+    ensures carried { MatchOption result (giver.new ≡ giver.old) (Carries (max 1 among) giver.old giver.new) }
+{
+    if !is_at_work {
+        return None;
+    }
+    carry(giver, among).ok()
+}
+
 // The queues that have packets go away as tasks, each with its part of the list. The others are worked here.
 fn send_queues<G: Gate>(
     gate: &G,
@@ -79,28 +91,45 @@ fn send_queues<G: Gate>(
     ensures sent { SentQueues segs (length queues.old) queues.old queues.new tasks.old.items tasks.new.items }
     ensures carried { (old : Option GiverState) → Divided old giver.old (carried tasks.old.items)
         → Divided old giver.new (carried tasks.new.items) }
+    ensures shares { (n : ℕ) → max 1 at_work ≤ n → HaveShares n giver.old tasks.old.items
+        → HaveShares n giver.new tasks.new.items }
     ensures few { deque_len tasks.new ≤ deque_len tasks.old + length queues.old }
     ensures room { deque_capacity tasks.new ≡ deque_capacity tasks.old }
 {
     for at in 0..queues.len() {
-        if queues[at].packets.is_empty() {
-            work(gate, segs, &mut queues[at]);
-        } else {
-            let lane = take_queue(&mut queues[at]);
-            let part = carry(giver, at_work.saturating_sub(tasks.len()));
-            tasks.push_back_reserved(LaneTask::Queue(QueueTask::new(at, lane, segs, part)));
+        let is_at_work = !queues[at].packets.is_empty();
+        match part_if(is_at_work, giver, at_work.saturating_sub(tasks.len())) {
+            Some(part) => {
+                let lane = take_queue(&mut queues[at]);
+                tasks.push_back_reserved(LaneTask::Queue(QueueTask::new(at, lane, segs, part)));
+            }
+            None => work(gate, segs, &mut queues[at]),
         }
     }
 }
 
-// What a tap's task has of the filter. None where there is nothing to read: then it is no task.
-fn filter_for(lane: &TapLane, plan: &LanePlan) -> Option<Option<SharedProgram>>
-    ensures same { IfSome result (λ filter. filter ≡ plan.now.filter) }
+// What a tap's task has of the filter, and what it carries. None where there is nothing to read, or no memory for its
+// part: then it is no task.
+fn load_for(
+    lane: &TapLane,
+    plan: &LanePlan,
+    giver: &mut Option<Giver>,
+    among: usize,
+) -> Option<(Option<SharedProgram>, Option<Giver>)>
+    ensures same { IfSome result (λ load. load.0 ≡ plan.now.filter) }
+    ensures carried { MatchOption result (giver.new ≡ giver.old)
+        (λ load. Carries (max 1 among) giver.old giver.new load.1) }
 {
     if lane.clones.is_empty() {
         return None;
     }
-    share_in(&plan.filter).ok()
+    let Ok(filter) = share_in(&plan.filter) else {
+        return None;
+    };
+    match carry(giver, among) {
+        Ok(part) => Some((filter, part)),
+        Err(_) => None,
+    }
 }
 
 // The taps that have clones go away as tasks, each with its part of the list. The others are worked here.
@@ -114,15 +143,17 @@ fn send_taps<G: Gate>(
 )
     requires ready { All IsTapReady taps.old }
     requires room { deque_len tasks.old + length taps.old ≤ deque_capacity tasks.old }
+    ensures shares { (n : ℕ) → max 1 at_work ≤ n → HaveShares n giver.old tasks.old.items
+        → HaveShares n giver.new tasks.new.items }
     ensures sent { SentTaps plan.now (length taps.old) taps.old taps.new tasks.old.items tasks.new.items }
     ensures carried { (old : Option GiverState) → Divided old giver.old (carried tasks.old.items)
         → Divided old giver.new (carried tasks.new.items) }
 {
     for at in 0..taps.len() {
-        match filter_for(&taps[at], plan) {
-            Some(filter) => {
+        let among = at_work.saturating_sub(tasks.len());
+        match load_for(&taps[at], plan, giver, among) {
+            Some((filter, part)) => {
                 let lane = take_tap(&mut taps[at]);
-                let part = carry(giver, at_work.saturating_sub(tasks.len()));
                 let task = WatchTask::new(at, lane, plan.snap, filter, part);
                 tasks.push_back_reserved(LaneTask::Tap(task));
             }
@@ -131,8 +162,8 @@ fn send_taps<G: Gate>(
     }
 }
 
-/// The lanes that have something to do go away as tasks, and the list is divided among them. The others are worked
-/// here.
+/// The lanes that have something to do go away as tasks, and the list is divided among them: each carries at least what
+/// stays at hand of it, evenly divided among all lanes, or no part of the pass is left. The others are worked here.
 pub(crate) fn send_all<G: Gate>(
     gate: &G,
     plan: &LanePlan,
@@ -145,8 +176,11 @@ pub(crate) fn send_all<G: Gate>(
     requires room { length lanes.old.queues.items + length lanes.old.taps.items ≤ deque_capacity tasks.old }
     ensures away { Away plan.now lanes.old lanes.new tasks.new.items }
     ensures divided { Divided giver.old giver.new (carried tasks.new.items) }
+    ensures shares { HaveShares (max 1 (length lanes.old.queues.items + length lanes.old.taps.items)) giver.new
+        tasks.new.items }
 {
-    let at_work = count_at_work(lanes);
+    let all = lanes.queues.len().saturating_add(lanes.taps.len());
+    let at_work = count_at_work(lanes).min(all);
     send_queues(gate, plan.segs, &mut lanes.queues, at_work, tasks, giver);
     send_taps(gate, plan, &mut lanes.taps, at_work, tasks, giver);
 }

@@ -14,15 +14,16 @@
 //! taps share the filter by `lanes::SharedProgram`.
 //!
 //! Where blocks are lent that may go back while lanes are worked, each task carries as many as any other, a queue's or
-//! a tap's, and a pass of its own, unless there are fewer blocks than tasks or there is no memory for that. It gives
-//! them as soon as its lane is worked. What no task could carry goes behind them, and what finds the pool full stays
-//! with who lent it.
+//! a tap's, and a pass of its own, unless there are fewer blocks than tasks. It gives them as soon as its lane is
+//! worked. A lane for whose part there is no memory is no task. What no task could carry goes behind them, and what
+//! finds the pool full stays with who lent it.
 //!
 //! Proved of a crew is what `lanes::Works` asks (`did`, `gave`, `none_left` of `run_lanes`): each lane is worked, and
 //! stands at its place again, by an answer that is known to be that of its task (`DidLane` in `specs/Tasks`), in
 //! whatever order answers come; what was lent is there again, or was given. Each lane's task gives what it carries as
-//! soon as its lane is worked (`none_left` of `QueueTask::run` and of `WatchTask::run`). Of a desk that is opened:
-//! `open`, `count` of [`open_desk`], `some`, `few` of [`count_runners`].
+//! soon as its lane is worked (`none_left` of `QueueTask::run` and of `WatchTask::run`), and that is at least what stays
+//! at hand, evenly divided among all lanes (`shares` of `send_all`). Of a desk that is opened: `open`, `count` of
+//! [`open_desk`], `some`, `few` of [`count_runners`].
 //!
 //! Only tested: that lanes run at the same time. Not said: that a thread runs or is woken.
 //!

@@ -16,9 +16,5 @@ module _ {T A P : Type 0} where
 pub bench_then : (a b c : BenchState) → IsSameBench a b → IsSameBench b c → IsSameBench a c
 bench_then a b c p q = q ∙ ap (λ (x : BenchState). record x { room = c.room }) p
 
--- a fact of two values, or three, by others that are the same
-pub as_two : {A B : Type 0} (F : A → B → Type 0) {a a' : A} {b b' : B} → a' ≡ a → b' ≡ b → F a b → F a' b'
-as_two F {a} {a'} {b} {b'} p q h = subst (λ x. F x b') (sym p) (subst (λ y. F a y) (sym q) h)
-
 pub as_three : {A B C : Type 0} (F : A → B → C → Type 0) {a a' : A} {b b' : B} {c c' : C} → a' ≡ a → b' ≡ b → c' ≡ c → F a b c → F a' b' c'
 as_three F {a} {a'} {b} {b'} {c} {c'} p q r h = subst (λ x. F x b' c') (sym p) (subst (λ y. F a y c') (sym q) (subst (λ z. F a b z) (sym r) h))

@@ -1,11 +1,13 @@
 -- A giver that is lent, and comes back, and what it leaves on a list.
-use Rattle.std.proofs.Common.{ℕ, ◌-◌, ◌^◌, ◌≤◌, ◌⊎◌, inl, inr, min, ◌∙◌, Option, None, Some, refl, sym, ap, subst, arith}
+use Rattle.std.proofs.Common.{ℕ, ◌≡◌, ◌+◌, ◌-◌, ◌^◌, ◌≤◌, ◌⊎◌, inl, inr, min, ◌∙◌, Option, None, Some, refl, sym, ap, subst, arith}
 use Rattle.block_pool.specs.Giving.{GiverState, given_by}
 use Rattle.block_pool.specs.PassState.{risen, SharedState}
 use Rattle.block_pool.specs.PoolState.{PoolState, home}
-use Rattle.rounds.specs.Benches.{IsLent, Lends}
+use Rattle.rounds.specs.Benches.{fulls_by, GivesSpares, IsLent, Lends, UnlessFull}
+use Rattle.rounds.specs.declared.spares.Spares.{Spares}
+use Rattle.rounds.specs.Handled.{GaveSpares}
 use Rattle.block_supply.specs.Lists.{HasGiver}
-use Rattle.pipeline.specs.Parcels.{fulls_by, IsLeft, Returns}
+use Rattle.pipeline.specs.Parcels.{CountsSpares, IsLeft, Returns}
 
 pub lends_same : (g : Option GiverState) → IsLent g → Lends g g
 lends_same None lent = refl
@@ -56,7 +58,17 @@ pub left_few : (n : ℕ) (list : PoolState) (old new : Option GiverState) → ho
 left_few n list None new few = tt
 left_few n list (Some g) new few = inl few
 
--- by a giver that was lent before
+-- by a giver that was lent before, and lent again
+unless_both : (P Q R : Type 0) (old mid new : Option GiverState) → Lends old mid → Lends mid new → (P → Q → R) → UnlessFull old mid P → UnlessFull mid new Q → UnlessFull old new R
+unless_both P Q R None mid new a b both p q = tt
+unless_both P Q R (Some g) mid new a b both p q = by_mid p (subst (λ (z : Option GiverState). UnlessFull z new Q) a.1 q)
+  where
+    by_mid : P ⊎ (risen g.pass.fulls ≤ fulls_by mid) → Q ⊎ (risen a.0.pass.fulls ≤ fulls_by new) → R ⊎ (risen g.pass.fulls ≤ fulls_by new)
+    by_mid (inl x) (inl y) = inl (both x y)
+    by_mid (inl x) (inr full) = inr (omega (arith, full, a.2.fulls))
+    by_mid (inr full) y = inr (omega (arith, full, fulls_lent mid new b))
+
+-- by one that was lent before
 pub left_then : (n : ℕ) (list : PoolState) (old mid new : Option GiverState) → Lends old mid → IsLeft n list mid new → IsLeft n list old new
 left_then n list None mid new lends left = tt
 left_then n list (Some g) mid new lends left = by_mid (subst (λ (z : Option GiverState). IsLeft n list z new) lends.1 left)
@@ -65,8 +77,62 @@ left_then n list (Some g) mid new lends left = by_mid (subst (λ (z : Option Giv
     by_mid (inl few) = inl few
     by_mid (inr full) = inr (omega (arith, full, lends.2.fulls))
 
--- and by one that is lent again, where the list becomes another
+-- by one that is lent again, where what holds becomes another
+unless_again : (P Q : Type 0) (old mid new : Option GiverState) → Lends mid new → (P → Q) → UnlessFull old mid P → UnlessFull old new Q
+unless_again P Q None mid new lends more left = tt
+unless_again P Q (Some g) mid new lends more (inl holds) = inl (more holds)
+unless_again P Q (Some g) mid new lends more (inr full) = inr (omega (arith, full, fulls_lent mid new lends))
+
 pub left_again : (n m : ℕ) (list list' : PoolState) (old mid new : Option GiverState) → Lends mid new → (home list ≤ n → home list' ≤ m) → IsLeft n list old mid → IsLeft m list' old new
-left_again n m list list' None mid new lends more left = tt
-left_again n m list list' (Some g) mid new lends more (inl few) = inl (more few)
-left_again n m list list' (Some g) mid new lends more (inr full) = inr (omega (arith, full, fulls_lent mid new lends))
+left_again n m list list' = unless_again (home list ≤ n) (home list' ≤ m)
+
+-- ---- spares
+
+unless_holds : (P : Type 0) (old new : Option GiverState) → P → UnlessFull old new P
+unless_holds P None new holds = tt
+unless_holds P (Some g) new holds = inl holds
+
+pub counts_none : (n : ℕ) (spares : Spares) (old new : Option GiverState) → n ≡ 0 → CountsSpares n spares spares old new
+counts_none n spares old new none = record {
+  counted = omega (arith, none);
+  least = omega arith;
+  gave = unless_holds (min (spares.given + (spares.lent - spares.lent)) (2 ^ 64 - 1) ≤ spares.given) old new (omega arith);
+  refused = refl;
+}
+
+-- by a giver that is lent again, of as many rounds or fewer
+pub counts_again : (m n : ℕ) (from to : Spares) (old mid new : Option GiverState) → m ≤ n → Lends mid new → CountsSpares n from to old mid → CountsSpares m from to old new
+counts_again m n from to old mid new few lends c = record {
+  counted = omega (arith, few, c.counted);
+  least = c.least;
+  gave = unless_again (min (from.given + (to.lent - from.lent)) (2 ^ 64 - 1) ≤ to.given) (min (from.given + (to.lent - from.lent)) (2 ^ 64 - 1) ≤ to.given) old mid new lends (λ gave. gave) c.gave;
+  refused = c.refused;
+}
+
+-- one round more, of `lent` spares, `gone` of whose blocks went
+pub counts_more : (n lent gone : ℕ) (from at to : Spares) (old mid new : Option GiverState) → Lends old mid → Lends mid new → gone + given_by mid ≡ given_by new → CountsSpares n from at old mid
+    → GivesSpares lent mid new → to ≡ record { lent = min (at.lent + lent) (2 ^ 64 - 1); given = min (at.given + gone) (2 ^ 64 - 1); refused = at.refused } → at.lent ≤ to.lent → CountsSpares (n + lent) from to old new
+counts_more n lent gone from at to old mid new a b went c gives is later =
+    let now : to.lent ≡ min (at.lent + lent) (2 ^ 64 - 1) = ap (λ (s : Spares). s.lent) is in
+    let more : to.given ≡ min (at.given + gone) (2 ^ 64 - 1) = ap (λ (s : Spares). s.given) is in
+    record {
+      counted = omega (arith, c.counted, now);
+      least = omega (arith, c.least, later);
+      gave = unless_both (min (from.given + (at.lent - from.lent)) (2 ^ 64 - 1) ≤ at.given) (given_by mid + lent ≤ given_by new) (min (from.given + (to.lent - from.lent)) (2 ^ 64 - 1) ≤ to.given) old mid new a b
+          (λ x y. omega (arith, x, y, went, now, more, c.least)) c.gave gives;
+      refused = ap (λ (s : Spares). s.refused) is ∙ c.refused;
+    }
+
+-- once both sides have ended, and what found no place is counted
+pub gave_home : (n : ℕ) (from at to : Spares) (g : GiverState) (new : Option GiverState) → CountsSpares n from at (Some g) new → to ≡ record at { refused = min (at.refused + fulls_by new) (2 ^ 64 - 1) }
+    → at.refused ≤ to.refused → GaveSpares from to
+gave_home n from at to g new c is later = record {
+  lent = omega (arith, c.least, ap (λ (s : Spares). s.lent) is);
+  gave = by_puts c.gave;
+  refused = omega (arith, later, c.refused);
+}
+  where
+    by_puts : (min (from.given + (at.lent - from.lent)) (2 ^ 64 - 1) ≤ at.given) ⊎ (risen g.pass.fulls ≤ fulls_by new)
+        → (min (from.given + (to.lent - from.lent)) (2 ^ 64 - 1) ≤ to.given) ⊎ (risen from.refused ≤ to.refused)
+    by_puts (inl gave) = inl (omega (arith, gave, ap (λ (s : Spares). s.lent) is, ap (λ (s : Spares). s.given) is))
+    by_puts (inr full) = inr (omega (arith, full, c.refused, ap (λ (s : Spares). s.refused) is))

@@ -4,7 +4,7 @@ use Rattle.pcap_io.specs.declared.place.Place.{Place}
 use Rattle.rounds.specs.declared.round.RoundRead.{RoundRead}
 use Rattle.rounds.specs.Reads.{Spot, spot, ReadRound}
 use Rattle.pipeline.specs.declared.parcel.Parcel.{Parcel}
-use Rattle.pipeline.specs.Parcels.{blocks_of, last_blocks, packets_of, rounds_of, weights_sent}
+use Rattle.pipeline.specs.Parcels.{blocks_of, last_blocks, packets_of, rounds_of, spares_before, spares_of, weights_sent}
 
 -- ---- lists
 
@@ -19,6 +19,24 @@ blocks_last (p ∷ xs) x = omega (arith, blocks_last xs x)
 pub blocks_append : (xs ys : List Parcel) → blocks_of (xs ++ ys) ≡ blocks_of xs + blocks_of ys
 blocks_append [] ys = omega arith
 blocks_append (p ∷ xs) ys = omega (arith, blocks_append xs ys)
+
+pub spares_last : (xs : List Parcel) (x : Parcel) → spares_of (xs ++ x ∷ []) ≡ spares_of xs + length x.read.round.spares
+spares_last [] x = omega arith
+spares_last (p ∷ xs) x = omega (arith, spares_last xs x)
+
+-- all but the last one's
+pub before_last : (xs xs1 : List Parcel) (p : Parcel) → xs1 ≡ xs ++ p ∷ [] → spares_before xs1 ≡ spares_of xs
+before_last xs xs1 p is = ap spares_before is ∙ ends xs
+  where
+    ends : (ys : List Parcel) → spares_before (ys ++ p ∷ []) ≡ spares_of ys
+    ends [] = refl
+    ends (y ∷ []) = refl
+    ends (y ∷ z ∷ ys) = omega (arith, ends (z ∷ ys))
+
+pub before_few : (xs : List Parcel) → spares_before xs ≤ spares_of xs
+before_few [] = omega arith
+before_few (y ∷ []) = omega arith
+before_few (y ∷ z ∷ ys) = omega (arith, before_few (z ∷ ys))
 
 -- what these weigh, each by its name
 pub weights_sent_append : (h : ℕ → ℕ) (xs ys : List Parcel) → weights_sent h (xs ++ ys) ≡ weights_sent h xs + weights_sent h ys

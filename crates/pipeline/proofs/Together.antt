@@ -6,7 +6,7 @@ use Rattle.block_pool.specs.PoolState.{weighed}
 use Rattle.offload_model.specs.Written.{Options}
 use Rattle.rounds.specs.declared.round.RoundEnd.TheVariants as rounds
 use Rattle.rounds.specs.declared.round.RoundRead.{RoundRead}
-use Rattle.rounds.specs.Handled.{Ends, FewPauses, Ran, Rests, IsReadyAtEnd, Handled}
+use Rattle.rounds.specs.Handled.{Ends, FewPauses, GaveSpares, Ran, Rests, IsReadyAtEnd, Handled}
 use Rattle.rounds.specs.Merging.{options_of}
 use Rattle.rounds.specs.Reads.{Spot, ReadRound, Reads, is_full}
 use Rattle.rounds.specs.Benches.{AreOne, HasRoom, IsSameBench}
@@ -16,7 +16,7 @@ use Rattle.pipeline.specs.declared.parcel.Parcel.{Parcel}
 use Rattle.pipeline.specs.Handled.{RanOn, HandledOn, MayGoOn, IsOut, Idle, MayBeHandled, ComesBack, blocks_out, weights_out}
 use Rattle.pipeline.specs.Parcels.{blocks_of, rounds_of, weights_sent}
 use Rattle.pipeline.specs.Reads.{ReadOn, IsAlone}
-use Rattle.rounds.proofs.Going.{counted_as, few_none, few_then, ready_as}
+use Rattle.rounds.proofs.Going.{counted_as, few_none, few_then, gave_none, gave_then, ready_as}
 use Rattle.rounds.proofs.Rows.{reads_least}
 use Rattle.pipeline.proofs.Counting.{least_same, most_same, room_back}
 use Rattle.pipeline.proofs.Kept.{bench_then}
@@ -62,6 +62,7 @@ pub record Lent (state new : RoundsState) (intake : IntakeState) (home back : �
   pub all : new.home ≡ home
   pub after : new.taken ≡ back
   pub pauses : FewPauses state.empties state.pauses new.empties new.pauses
+  pub gives : GaveSpares state.spares new.spares
 
 -- The first round was read and full, and alone in the ring as the sides began. What was received of all that was sent, and what wasn't,
 -- is known once they have joined.
@@ -94,6 +95,7 @@ module _ {T E : Type 0} (did : T → T → RoundRead → ℕ → Option E → Ty
     same = re.same;
     least = omega (arith, s.few, reads_least state.blocks state.budget first last s.on.more read_behind);
     pauses = re.pauses;
+    gives = re.gives;
     later = s.later;
   }
 
@@ -142,6 +144,7 @@ module _ {T E : Type 0} (did : T → T → RoundRead → ℕ → Option E → Ty
         same = re.same;
         taken = ap (λ (x : Spot). x.taken) stands;
         pauses = re.pauses;
+        gives = re.gives;
         stands = stands;
         nothing = same;
       }
@@ -206,6 +209,7 @@ idle_as old new at was same = record {
   same = (ap (λ (s : RoundsState). s.blocks) same, ap options_of same, ap (λ (s : RoundsState). s.keep) same);
   taken = ap (λ (s : RoundsState). s.taken) same;
   pauses = few_none old.empties old.pauses new.empties new.pauses (omega (arith, ap (λ (s : RoundsState). s.empties) same)) (ap (λ (s : RoundsState). s.pauses) same);
+  gives = gave_none old.spares new.spares (ap (λ (s : RoundsState). s.spares) same);
   stands = ap (λ (s : RoundsState). record at { taken = s.taken }) same;
   nothing = refl;
 }
@@ -252,6 +256,7 @@ module _ {T E : Type 0} (did : Options → T → T → RoundRead → ℕ → Opt
       same = (h.rests.same.0 ∙ idle.same.0, h.rests.same.1 ∙ idle.same.1, h.rests.same.2 ∙ idle.same.2);
       least = omega (arith, h.rests.least, idle.taken);
       pauses = few_then old.empties old.pauses mid.empties mid.pauses new.empties new.pauses idle.pauses h.rests.pauses;
+      gives = gave_then old.spares mid.spares new.spares idle.gives h.rests.gives;
       later = omega (arith, ap (λ (s : Spot). s.faults) idle.stands, h.rests.later);
     };
     named = λ x. omega (arith, h.named x, idle.named x, ap (λ (r : RoundRead). weights_of r.round x) same);
@@ -260,7 +265,7 @@ module _ {T E : Type 0} (did : Options → T → T → RoundRead → ℕ → Opt
 
   -- with the first round, from where it was read
   pub all_handled : (old mid new : RoundsState) (read : RoundRead) (from at to : Spot) (was is : T) (end : E) → ReadRound old.blocks old.budget from at read
-      → (mid.blocks ≡ old.blocks) × (options_of mid ≡ options_of old) × (mid.keep ≡ old.keep) → (mid.empties ≡ old.empties) × (mid.pauses ≡ old.pauses) → old.taken ≤ mid.taken
+      → (mid.blocks ≡ old.blocks) × (options_of mid ≡ options_of old) × (mid.keep ≡ old.keep) → (mid.empties ≡ old.empties) × (mid.pauses ≡ old.pauses) × (mid.spares ≡ old.spares) → old.taken ≤ mid.taken
       → ((h : ℕ → ℕ) → weighed h mid.stock + weights_of read.round h ≡ weighed h old.stock)
       → HandledOn (did (options_of mid)) stopped (ready (options_of mid) mid.keep) mid new read at to was is end
       → Handled (did (options_of old)) stopped (ready (options_of old) old.keep) 0 old new from to was is end
@@ -276,6 +281,7 @@ module _ {T E : Type 0} (did : Options → T → T → RoundRead → ℕ → Opt
           least = omega (arith, h.rests.least, least);
           pauses = few_then old.empties old.pauses mid.empties mid.pauses new.empties new.pauses
               (few_none old.empties old.pauses mid.empties mid.pauses (omega (arith, counts.0)) counts.1) h.rests.pauses;
+          gives = gave_then old.spares mid.spares new.spares (gave_none old.spares mid.spares counts.2) h.rests.gives;
           later = omega (arith, r.later, h.rests.later);
         };
         named = λ x. omega (arith, h.named x, named x);
@@ -292,6 +298,9 @@ module _ {T E : Type 0} (did : Options → T → T → RoundRead → ℕ → Opt
 
     put_few : FewPauses old.empties old.pauses mid.empties mid.pauses
     put_few = few_none old.empties old.pauses mid.empties mid.pauses (omega (arith, ap (λ (s : RoundsState). s.empties) put)) (ap (λ (s : RoundsState). s.pauses) put)
+
+    put_gave : GaveSpares old.spares mid.spares
+    put_gave = gave_none old.spares mid.spares (ap (λ (s : RoundsState). s.spares) put)
 
     -- the first round ended it
     pub put_ends : (end : E) → did (options_of old) was between read 0 (Some end)
@@ -311,6 +320,7 @@ module _ {T E : Type 0} (did : Options → T → T → RoundRead → ℕ → Opt
         same = (ap (λ (s : RoundsState). s.blocks) put, ap options_of put, ap (λ (s : RoundsState). s.keep) put);
         least = omega (arith, ap (λ (s : RoundsState). s.taken) put);
         pauses = put_few;
+        gives = put_gave;
         later = omega arith;
       };
       named = named;
@@ -339,6 +349,7 @@ module _ {T E : Type 0} (did : Options → T → T → RoundRead → ℕ → Opt
             same = (h.rests.same.0 ∙ ap (λ (s : RoundsState). s.blocks) put, h.rests.same.1 ∙ ap options_of put, h.rests.same.2 ∙ ap (λ (s : RoundsState). s.keep) put);
             least = omega (arith, h.rests.least, ap (λ (s : RoundsState). s.taken) put);
             pauses = few_then old.empties old.pauses mid.empties mid.pauses new.empties new.pauses put_few h.rests.pauses;
+            gives = gave_then old.spares mid.spares new.spares put_gave h.rests.gives;
             later = h.rests.later;
           };
           named = λ x. omega (arith, h.named x, named x);

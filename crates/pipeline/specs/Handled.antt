@@ -8,14 +8,16 @@ use Rattle.pcap_io.specs.declared.place.Place.{Place}
 use Rattle.pcap_io.specs.Places.{IsReady}
 use Rattle.rounds.specs.declared.round.RoundEnd.TheVariants as ends
 use Rattle.rounds.specs.declared.round.RoundRead.{RoundRead}
+use Rattle.rounds.specs.declared.spares.Spares.{Spares}
 use Rattle.rounds.specs.Benches.{HasRoom, IsLent, IsRead, IsSameBench, Lends}
-use Rattle.rounds.specs.Handled.{Ends, FewPauses, IsReadyAtEnd, Rests}
+use Rattle.rounds.specs.Handled.{Ends, FewPauses, GaveSpares, IsReadyAtEnd, Rests}
 use Rattle.rounds.specs.Merging.{options_of}
 use Rattle.rounds.specs.Reads.{Spot, Reads, is_full}
 use Rattle.rounds.specs.RoundsState.{BenchState, RoundsState}
 use Rattle.rounds.specs.Weights.{weights_of}
 use Rattle.pipeline.specs.declared.parcel.Parcel.{Parcel}
-use Rattle.pipeline.specs.Parcels.{blocks_of, last_blocks, rounds_of, weights_sent, IsLeft}
+use Rattle.pipeline.specs.Parcels.{blocks_of, last_blocks, rounds_of, spares_before, weights_sent, CountsSpares}
+use Rattle.pipeline.specs.Parcels.{IsLeft}
 
 -- As `Ran` of the rounds says, behind a round that was read up to here, and with it.
 pub record RanOn {T E : Type 0} (did : T → T → RoundRead → ℕ → Option E → Type 0) (stopped : E) (blocks budget : ℕ)
@@ -67,6 +69,7 @@ pub record Idle {T : Type 0} (old new : RoundsState) (from to : Spot) (was is : 
   pub same : (new.blocks ≡ old.blocks) × (options_of new ≡ options_of old) × (new.keep ≡ old.keep)
   pub taken : new.taken ≡ old.taken
   pub pauses : FewPauses old.empties old.pauses new.empties new.pauses
+  pub gives : GaveSpares old.spares new.spares
   pub stands : to ≡ from
   pub nothing : is ≡ was
 
@@ -105,10 +108,11 @@ pub record MayWork {T : Type 0} (starts : ℕ → T → Type 0) (blocks : ℕ) (
   pub start : starts 0 into
 
 -- It has ended, with what it got; `None` where no reader had begun. What it got went home by the giver, but for what is
--- left on its list: no more than the last round had, unless a put found no place.
+-- left on its list: no more than the last round had, unless a put found no place. Spares of all but the last one were
+-- given while their round was worked.
 pub record HasWorked {T E : Type 0} (did : T → T → RoundRead → ℕ → Option E → Type 0) (stopped : E)
     (starts : ℕ → T → Type 0) (bench bench' : BenchState) (list : PoolState) (giver giver' : Option GiverState)
-    (was is : T) (got : List Parcel) (end : Option E) : Type 0 where
+    (counts counts' : Spares) (was is : T) (got : List Parcel) (end : Option E) : Type 0 where
   pub handled : MatchOption end ((got ≡ []) × (is ≡ was)) (λ e. Ends did stopped 0 was is (rounds_of got) e)
   pub ready : IsReadyAtEnd starts is
   pub each : home list + given_by giver' ≡ blocks_of got + given_by giver
@@ -116,5 +120,6 @@ pub record HasWorked {T E : Type 0} (did : T → T → RoundRead → ℕ → Opt
       ≡ weights_sent h got + weights_given giver h
   pub lends : Lends giver giver'
   pub none_left : IsLeft (last_blocks got) list giver giver'
+  pub spares : CountsSpares (spares_before got) counts counts' giver giver'
   pub room : HasRoom (home list) bench'
   pub same : IsSameBench bench bench'

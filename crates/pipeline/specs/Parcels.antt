@@ -1,11 +1,10 @@
 -- What goes through the ring, how many blocks it holds, and what these weigh together, each by its name.
-use Rattle.std.specs.Prelude.{ℕ, ◌≡◌, ◌⊎◌, ◌+◌, ◌^◌, ◌≤◌, Option, None, Some, List, [], ◌∷◌, ◌++◌}
-use Rattle.std.specs.Prelude.{length}
+use Rattle.std.specs.Prelude.{ℕ, ◌≡◌, ◌+◌, ◌-◌, ◌^◌, ◌≤◌, min, Option, List, [], ◌∷◌, ◌++◌, length}
 use Rattle.block_pool.specs.Giving.{GiverState, given_by, weights_given}
-use Rattle.block_pool.specs.PassState.{risen}
 use Rattle.block_pool.specs.PoolState.{PoolState, home, weighed}
-use Rattle.rounds.specs.Benches.{IsRead, Lends}
+use Rattle.rounds.specs.Benches.{IsRead, Lends, UnlessFull}
 use Rattle.rounds.specs.declared.round.RoundRead.{RoundRead}
+use Rattle.rounds.specs.declared.spares.Spares.{Spares}
 use Rattle.rounds.specs.Weights.{weights_of}
 use Rattle.pipeline.specs.declared.parcel.Parcel.{Parcel}
 
@@ -56,13 +55,25 @@ pub record Returns (giver giver' : Option GiverState) (list list' : PoolState) :
       ≡ weighed h list.blocks + weights_given giver h
   pub gave : Lends giver giver'
 
--- how many puts of who gives found no place
-abbrev pub fulls_by : Option GiverState → ℕ
-fulls_by None = 0
-fulls_by (Some g) = g.pass.fulls
-
--- where somebody gives, at most so many blocks are left, or a put found no place: the count of these rose, or stands
--- at its last value
+-- at most so many blocks are left
 abbrev pub IsLeft : ℕ → PoolState → Option GiverState → Option GiverState → Type 0
-IsLeft n list None new = Unit {0}
-IsLeft n list (Some g) new = (home list ≤ n) ⊎ (risen g.pass.fulls ≤ fulls_by new)
+IsLeft n list old new = UnlessFull old new (home list ≤ n)
+
+-- ---- spares
+
+abbrev pub spares_of : List Parcel → ℕ
+spares_of [] = 0
+spares_of (p ∷ xs) = length p.read.round.spares + spares_of xs
+
+-- of all but the last one
+abbrev pub spares_before : List Parcel → ℕ
+spares_before [] = 0
+spares_before (p ∷ []) = 0
+spares_before (p ∷ q ∷ xs) = length p.read.round.spares + spares_before (q ∷ xs)
+
+-- Rounds with so many spares at least were counted, and as many blocks that went back while these were worked.
+pub record CountsSpares (n : ℕ) (old new : Spares) (giver giver' : Option GiverState) : Type 0 where
+  pub counted : min (old.lent + n) (2 ^ 64 - 1) ≤ new.lent
+  pub least : old.lent ≤ new.lent
+  pub gave : UnlessFull giver giver' (min (old.given + (new.lent - old.lent)) (2 ^ 64 - 1) ≤ new.given)
+  pub refused : new.refused ≡ old.refused

@@ -1,5 +1,5 @@
 //! Handles a capture's rounds with all who run lanes beside it, until the run is over.
-ghost use Rattle.std.specs.Prelude.{◌≡◌, All};
+ghost use Rattle.std.specs.Prelude.{◌≡◌, true, All};
 ghost use Rattle.pcap_io.specs.declared.heads.Link.TheVariants.{Ethernet};
 ghost use Rattle.pcap_io.specs.Places.{IsReady};
 ghost use Rattle.pcap_io.specs.Readers.{place_of, SameLoan};
@@ -51,6 +51,7 @@ fn handle_serving<
 ) -> E
     requires own { errands.now ≡ N.desk }
     requires runners { All (λ r. r ≡ errands.now) runners.old }
+    requires gives { W.gives ≡ true }
     requires may { MayHandle (H.ready (options_of rounds.old) rounds.old.keep) rounds.old (place_of reader.old)
         into.old }
     ensures same_source { SameLoan reader.old reader.new }
@@ -66,6 +67,7 @@ fn handle_serving<
             requires runners { All (λ r. r ≡ errands.now) runners.now }
         { serve_lanes(rt, errands, runners, replies, job, bells) },
         &mut || -> E
+            requires gives { W.gives ≡ true }
             requires may { MayHandle (H.ready (options_of rounds.now) rounds.now.keep) rounds.now
                 (place_of reader.now) into.now }
             ensures same_source { SameLoan reader.entry.now reader.exit.now }

@@ -137,6 +137,7 @@ fn handle_named<
 ) -> Result<E, RoundRead>
     requires out { IsOut (H.ready (options_of rounds.old) rounds.old.keep) rounds.old read (place_of reader.old)
         into.old }
+    requires gives { W.gives ≡ true }
     requires full { read.end ≡ RoundEnd.Full }
     requires named { rounds.old.blocks ≡ N.blocks }
     requires way { arc_value way.taker.lists ≡ N.lists }
@@ -150,6 +151,7 @@ fn handle_named<
     let _ = rounds.taken();
     let intake = &mut rounds.intake;
     let bench = &mut rounds.bench;
+    let spares = &mut rounds.spares;
     let Ok((mut out, mut from, mut list, next, spent)) = prepare::<N>(alloc, bench) else {
         return Err(read);
     };
@@ -171,6 +173,7 @@ fn handle_named<
         bench,
         &mut list,
         &mut giver,
+        spares,
         reader,
         handler,
         into,
@@ -182,7 +185,7 @@ fn handle_named<
     let waiting = from.slots_beside(&mut out);
     let taker = desk.close();
     let ended = ending::<N, T, E, H>(end, waiting, handler, &mut from);
-    bring_home(rt, intake, list, taker, giver);
+    spares.refuse(bring_home(rt, intake, list, taker, giver));
     drop_parcels(rounds, &mut from);
     ended
 }
@@ -201,6 +204,7 @@ fn handle_picked<R: Threads + Wait + Sync, W: Works, S: Source + Send, T, E, H: 
 ) -> Result<E, RoundRead>
     requires out { IsOut (H.ready (options_of rounds.old) rounds.old.keep) rounds.old read (place_of reader.old)
         into.old }
+    requires gives { W.gives ≡ true }
     requires full { read.end ≡ RoundEnd.Full }
     ensures same_source { SameLoan reader.old reader.new }
     ensures handled { MayBeHandled (H.did handler.now (options_of rounds.old)) H.stopped
@@ -227,6 +231,7 @@ fn handle_on<R: Threads + Wait + Sync, W: Works, S: Source + Send, T, E, H: Roun
 ) -> E
     requires out { IsOut (H.ready (options_of rounds.old) rounds.old.keep) rounds.old read (place_of reader.old)
         into.old }
+    requires gives { W.gives ≡ true }
     requires full { read.end ≡ RoundEnd.Full }
     ensures same_source { SameLoan reader.old reader.new }
     ensures handled { HandledOn (H.did handler.now (options_of rounds.old)) H.stopped
@@ -259,7 +264,8 @@ fn is_shared(rt: &impl Threads, read: &RoundRead) -> bool
     is_full(read.end) && !is_alone(rt) && !read.round.has_short_frames()
 }
 
-/// Handles a capture's rounds by whoever works; the next rounds are read while one is worked, the first one too. On one
+/// Handles a capture's rounds by whoever works and gives blocks back meanwhile; the next rounds are read while one is
+/// worked, the first one too. On one
 /// processor, where frames are short, and where there is no memory or no thread for a second side, they are read here.
 /// Of a capture of one round no thread is made for it.
 pub(crate) fn handle_by<
@@ -278,6 +284,7 @@ pub(crate) fn handle_by<
     handler: &H,
     into: &mut T,
 ) -> E
+    requires gives { W.gives ≡ true }
     requires may { MayHandle (H.ready (options_of rounds.old) rounds.old.keep) rounds.old (place_of reader.old)
         into.old }
     ensures same_source { SameLoan reader.old reader.new }

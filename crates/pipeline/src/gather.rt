@@ -6,6 +6,7 @@ ghost use Rattle.block_pool.specs.Listed.{blocks_in};
 ghost use Rattle.block_pool.specs.PoolState.{home, weighed};
 ghost use Rattle.rtrb.specs.Ring.{known_items};
 ghost use Rattle.block_supply.specs.Lists.{HasGiver, weights_listed};
+ghost use Rattle.rounds.specs.Benches.{fulls_by};
 ghost use Rattle.pipeline.specs.Parcels.{blocks_of, weights_sent};
 
 use crate::parcel::{Fits, Parcel};
@@ -36,14 +37,15 @@ pub(crate) fn drop_parcels<N: Naming>(
     }
 }
 
-/// All blocks come home that lie in lists, wherever these are: in the pool of lists, or with the side that worked.
+/// All blocks come home that lie in lists, wherever these are: in the pool of lists, or with the side that worked. The
+/// answer is how many puts of that side found no place.
 pub(crate) fn bring_home<R: Wait>(
     rt: &R,
     intake: &mut Intake,
     list: Pool,
     taker: Taker,
     giver: Option<Giver>,
-)
+) -> u64
     requires giver { HasGiver (arc_value taker.lists) giver }
     requires room { intake.old.home + home list + home taker.left + given_by giver
         ≤ intake.old.blocks + blocks_in taker.pass.taken }
@@ -58,7 +60,9 @@ pub(crate) fn bring_home<R: Wait>(
     ensures named { (h : ℕ → ℕ) → weighed h intake.new.stock + weights_listed h taker.pass.taken
         ≡ weighed h intake.old.stock + weighed h list.blocks + weighed h taker.left.blocks + weights_given giver h }
     ensures least { intake.old.home + home list ≤ intake.new.home }
+    ensures fulls { result ≡ fulls_by giver }
 {
-    bring_lists(rt, intake, taker, giver);
+    let refused = bring_lists(rt, intake, taker, giver);
     intake.bring_in(list);
+    refused
 }

@@ -8,6 +8,7 @@ ghost use Rattle.offload_model.specs.Passing.{merging, Passes, PrefixUnless, flu
 ghost use Rattle.pcap_io.specs.declared.heads.Link.TheVariants.{Ethernet};
 ghost use Rattle.pcap_io.specs.Places.{IsReady};
 ghost use Rattle.pcap_io.specs.Readers.{place_of, source_of, SameLoan};
+ghost use Rattle.rounds.specs.Handled.{GaveSpares};
 ghost use Rattle.rounds.specs.Merging.{ending_of, options_of, HoldsCaptured, TakesTo};
 
 use crate::crewed::handle_beside;
@@ -53,6 +54,7 @@ pub fn merge_beside<R: Threads + Wait + Sync, S: Source + Send, K: Sink, G: Gate
     ensures least { rounds.old.taken ≤ rounds.new.taken }
     ensures pauses { (rounds.old.pauses ≤ rounds.new.pauses)
         × (min (rounds.old.empties + (rounds.new.pauses - rounds.old.pauses)) (2 ^ 64 - 1) ≤ rounds.new.empties) }
+    ensures gives { GaveSpares rounds.old.spares rounds.new.spares }
     ensures captured { Told (S.left (source_of reader.old)) (S.left (source_of reader.new))
         (HoldsCaptured rounds.old.blocks rounds.old.budget (place_of reader.old) result) }
     ensures later { S.faults (source_of reader.old) ≤ S.faults (source_of reader.new) }

@@ -1,5 +1,6 @@
 //! The side that reads and the side that works.
-ghost use Rattle.std.specs.Prelude.{◌≡◌, Some};
+ghost use Rattle.std.specs.Prelude.{◌≡◌, ◌+◌, ◌-◌, true, Some};
+ghost use Rattle.block_pool.specs.PoolState.{home};
 ghost use Rattle.pcap_io.specs.Readers.{place_of, SameLoan};
 ghost use Rattle.rounds.specs.Benches.{options_at};
 ghost use Rattle.rounds.specs.Reads.{is_full as is_full_end, reader_at};
@@ -14,7 +15,7 @@ use crossing::{Bells, Desk, Naming, Post, send};
 use lanes::Works;
 use off_io::Source;
 use pcap_io::CaptureReader;
-use rounds::{Bench, Intake, RoundEnd, RoundHandler};
+use rounds::{Bench, Intake, RoundEnd, RoundHandler, Spares};
 use rtrb::{Consumer, Producer};
 use std::alloc::Global;
 use std::sync::Wait;
@@ -80,8 +81,16 @@ fn read_side<N: Naming, R: Wait, P: Post + Drop, S: Source>(
     unreachable!()
 }
 
-// Handles each round that comes, until one ends it. What isn't given while it is worked is given once it was written,
-// as one list; what finds no place stays, and what the last one leaves.
+// How many of so many blocks went elsewhere, where a list had so many before they were to come there.
+fn gone(before: u32, blocks: u32, list: &Pool) -> u64
+    ensures value { result ≡ before + blocks - home list.now }
+{
+    (before as u64 + blocks as u64).saturating_sub(list.home() as u64)
+}
+
+// Handles each round that comes, until one ends it. Its spares are given while it is worked, and counted where another
+// may follow; all else is given once it was written, as one list. What finds no place stays, and what the last one
+// leaves.
 fn work_rounds<N: Naming, R: Wait, W: Works, T, E, H: RoundHandler<T, E>>(
     rt: &R,
     alloc: Global,
@@ -89,17 +98,19 @@ fn work_rounds<N: Naming, R: Wait, W: Works, T, E, H: RoundHandler<T, E>>(
     bench: &mut Bench,
     list: &mut Pool,
     giver: &mut Option<Giver>,
+    spares: &mut Spares,
     handler: &H,
     into: &mut T,
     from: &mut Consumer<Parcel, Global, Fits<N>>,
     bells: &Bells,
 ) -> E
+    requires gives { W.gives ≡ true }
     requires works { MayWork (H.ready (options_at bench.old) bench.old.keep) N.blocks bench.old list.old giver.old
         (received from.old) into.old }
     ensures ring { SameConsumer from.old from.new }
     ensures worked { HasWorked (H.did handler.now (options_at bench.old)) H.stopped
-        (H.ready (options_at bench.old) bench.old.keep) bench.old bench.new list.new giver.old giver.new into.old
-        into.new (received from.new) (Some result) }
+        (H.ready (options_at bench.old) bench.old.keep) bench.old bench.new list.new giver.old giver.new spares.old
+        spares.new into.old into.new (received from.new) (Some result) }
 {
     for _ in rt.forever() {
         let Some(parcel) = next_round(rt, alloc, giver, list, from, bells) else {
@@ -107,10 +118,14 @@ fn work_rounds<N: Naming, R: Wait, W: Works, T, E, H: RoundHandler<T, E>>(
         };
         bells.reader.wake();
         let (number, read, spent) = parcel.open();
+        let before = list.home();
+        let blocks = read.round.blocks();
+        let lent = read.round.spares();
         match handler.handle(works, bench, list, giver, read, number, into) {
             Some(end) => return end,
             None => {}
         }
+        spares.count(lent as u64, gone(before, blocks, list));
         // Where there is no memory for what the next round leaves, no more rounds are wanted.
         let Ok(empty) = make_ready(alloc, bench, spent) else {
             return handler.stop();
@@ -128,23 +143,25 @@ fn work_side<N: Naming, R: Wait, W: Works, T, E, H: RoundHandler<T, E>>(
     bench: &mut Bench,
     list: &mut Pool,
     giver: &mut Option<Giver>,
+    spares: &mut Spares,
     handler: &H,
     into: &mut T,
     from: &mut Consumer<Parcel, Global, Fits<N>>,
     bells: &Bells,
 ) -> Option<E>
+    requires gives { W.gives ≡ true }
     requires works { MayWork (H.ready (options_at bench.old) bench.old.keep) N.blocks bench.old list.old giver.old
         (received from.old) into.old }
     ensures ring { SameConsumer from.old from.new }
     ensures worked { HasWorked (H.did handler.now (options_at bench.old)) H.stopped
-        (H.ready (options_at bench.old) bench.old.keep) bench.old bench.new list.new giver.old giver.new into.old
-        into.new (received from.new) result }
+        (H.ready (options_at bench.old) bench.old.keep) bench.old bench.new list.new giver.old giver.new spares.old
+        spares.new into.old into.new (received from.new) result }
 {
     if !bells.has_begun() {
         return None;
     }
     let end = work_rounds(
-        rt, alloc, works, bench, list, giver, handler, into, from, bells,
+        rt, alloc, works, bench, list, giver, spares, handler, into, from, bells,
     );
     bells.end();
     Some(end)
@@ -169,6 +186,7 @@ pub(crate) fn run_sides<
     bench: &'a mut Bench,
     list: &'a mut Pool,
     giver: &'a mut Option<Giver>,
+    spares: &'a mut Spares,
     reader: &'a mut CaptureReader<'_, S>,
     handler: &'a H,
     into: &'a mut T,
@@ -177,6 +195,7 @@ pub(crate) fn run_sides<
     bells: &'a Bells,
 ) -> Option<E>
     requires reads { MayRead N.blocks intake.old (place_of reader.old) (sent supply.old.out) }
+    requires gives { W.gives ≡ true }
     requires works { MayWork (H.ready (options_at bench.old) bench.old.keep) N.blocks bench.old list.old giver.old
         (received from.old) into.old }
     ensures rings { SameProducer supply.old.out supply.new.out × SameConsumer from.old from.new }
@@ -185,8 +204,8 @@ pub(crate) fn run_sides<
         (reader_at S.left S.faults reader.new intake.new.taken) (sent supply.old.out) (sent supply.new.out)
         supply.old.desk supply.new.desk }
     ensures worked { HasWorked (H.did handler.now (options_at bench.old)) H.stopped
-        (H.ready (options_at bench.old) bench.old.keep) bench.old bench.new list.new giver.old giver.new into.old
-        into.new (received from.new) result }
+        (H.ready (options_at bench.old) bench.old.keep) bench.old bench.new list.new giver.old giver.new spares.old
+        spares.new into.old into.new (received from.new) result }
 {
     let ((), end) = join_mut(
         rt,
@@ -200,16 +219,17 @@ pub(crate) fn run_sides<
                 (sent supply.entry.now.out) (sent supply.exit.now.out) supply.entry.now.desk supply.exit.now.desk }
         { read_side(rt, reader, intake, supply) },
         &mut || -> Option<E>
+            requires gives { W.gives ≡ true }
             requires works { MayWork (H.ready (options_at bench.now) bench.now.keep) N.blocks bench.now list.now
                 giver.now (received from.now) into.now }
             ensures ring { SameConsumer from.entry.now from.exit.now }
             ensures worked { HasWorked (H.did handler.entry.now (options_at bench.entry.now)) H.stopped
                 (H.ready (options_at bench.entry.now) bench.entry.now.keep) bench.entry.now bench.exit.now
-                list.exit.now giver.entry.now giver.exit.now into.entry.now into.exit.now (received from.exit.now)
-                result }
+                list.exit.now giver.entry.now giver.exit.now spares.entry.now spares.exit.now into.entry.now
+                into.exit.now (received from.exit.now) result }
         {
             work_side(
-                rt, alloc, works, bench, list, giver, handler, into, from, bells,
+                rt, alloc, works, bench, list, giver, spares, handler, into, from, bells,
             )
         },
     );

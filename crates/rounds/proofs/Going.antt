@@ -1,8 +1,10 @@
 -- Rounds that were handled, one after another.
-use Rattle.std.proofs.Common.{◌≡◌, ◌∙◌, ◌⊎◌, ◌+◌, ◌-◌, ◌≤◌, ◌^◌, ℕ, min, List, [], ◌∷◌, ◌++◌, Option, None, Bool, inl, inr, refl, ap, subst, length, arith}
+use Rattle.std.proofs.Common.{◌≡◌, ◌∙◌, ◌⊎◌, ◌+◌, ◌-◌, ◌≤◌, ◌^◌, ℕ, min, List, [], ◌∷◌, ◌++◌, Option, None, Bool, inl, inr, refl, sym, ap, subst, length, arith}
+use Rattle.block_pool.specs.PassState.{risen}
 use Rattle.offload_model.specs.Written.{Options}
 use Rattle.rounds.specs.declared.round.RoundRead.{RoundRead}
-use Rattle.rounds.specs.Handled.{Went, Ends, FewPauses, IsReadyAt, Rests, Stepped}
+use Rattle.rounds.specs.declared.spares.Spares.{Spares}
+use Rattle.rounds.specs.Handled.{Went, Ends, FewPauses, GaveSpares, IsReadyAt, Rests, Stepped}
 use Rattle.rounds.specs.Merging.{options_of}
 use Rattle.rounds.specs.Reads.{Spot}
 use Rattle.rounds.specs.RoundsState.{RoundsState}
@@ -69,11 +71,26 @@ few_then e p e' p' e'' p'' a b = (omega (arith, a.0, b.0), omega (arith, a.0, a.
 pub few_none : (e p e' p' : ℕ) → e ≤ e' → p' ≡ p → FewPauses e p e' p'
 few_none e p e' p' later same = (omega (arith, same), omega (arith, later, same))
 
+-- spares that went back, over two steps, and over none
+pub gave_then : (old now new : Spares) → GaveSpares old now → GaveSpares now new → GaveSpares old new
+gave_then old now new a b = record { lent = omega (arith, a.lent, b.lent); gave = both a.gave b.gave; refused = omega (arith, a.refused, b.refused) }
+  where
+    both : (min (old.given + (now.lent - old.lent)) (2 ^ 64 - 1) ≤ now.given) ⊎ (risen old.refused ≤ now.refused)
+        → (min (now.given + (new.lent - now.lent)) (2 ^ 64 - 1) ≤ new.given) ⊎ (risen now.refused ≤ new.refused)
+        → (min (old.given + (new.lent - old.lent)) (2 ^ 64 - 1) ≤ new.given) ⊎ (risen old.refused ≤ new.refused)
+    both (inl x) (inl y) = inl (omega (arith, a.lent, b.lent, x, y))
+    both (inl x) (inr y) = inr (omega (arith, a.refused, y))
+    both (inr x) y = inr (omega (arith, x, b.refused))
+
+pub gave_none : (old new : Spares) → new ≡ old → GaveSpares old new
+gave_none old new same = subst (GaveSpares old) (sym same) (record { lent = omega arith; gave = inl (omega arith); refused = omega arith })
+
 pub rests_then : (old now new : RoundsState) (from at to : Spot) → Rests old now from at → Rests now new at to → Rests old new from to
 rests_then old now new from at to a b = record {
   home = b.home;
   same = (b.same.0 ∙ a.same.0, b.same.1 ∙ a.same.1, b.same.2 ∙ a.same.2);
   least = omega (arith, a.least, b.least);
   pauses = few_then old.empties old.pauses now.empties now.pauses new.empties new.pauses a.pauses b.pauses;
+  gives = gave_then old.spares now.spares new.spares a.gives b.gives;
   later = omega (arith, a.later, b.later);
 }

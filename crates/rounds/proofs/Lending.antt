@@ -6,7 +6,7 @@ use Rattle.block_pool.specs.Giving.{GiverState, Gave, LeavesNone, MayGive, given
 use Rattle.block_pool.proofs.Giving.{count_lying}
 use Rattle.block_pool.specs.PassState.{risen, IsSame}
 use Rattle.block_pool.specs.PoolState.{PoolState, home, weighed}
-use Rattle.rounds.specs.Benches.{BringsBeside, Brings, IsLent, LeavesNoSpare, Lends, MayBring, Swaps}
+use Rattle.rounds.specs.Benches.{fulls_by, BringsBeside, Brings, GivesSpares, IsLent, LeavesNoSpare, Lends, MayBring, Swaps}
 use Rattle.rounds.specs.RoundsState.{BenchState, WorkedState}
 
 -- a round's spares went to the giver's list, some were given, and what is left came back
@@ -74,6 +74,16 @@ leaves_no_spare (Some g) b c d s t u to none back =
     let left : LeavesNone (Some (record g { list = s })) c = subst (λ z. LeavesNone z c) to.0 none in
     let out : Swaps (Some left.0) d t u = subst (λ z. Swaps z d t u) left.1 back in
     (record left.0 { list = t }, out.0, none_stays (record g { list = s }) left.0 u out.1 left.2)
+
+-- so that all of a round's spares were given, n of them
+spares_gone : (n : ℕ) (g g' : GiverState) (d : Option GiverState) (before after : PoolState) → home after + given_by d ≡ home before + given_in g → home before ≡ n → d ≡ Some g'
+    → (after.blocks ≡ []) ⊎ (risen g.pass.fulls ≤ g'.pass.fulls) → GivesSpares n (Some g) d
+spares_gone n g g' d before after count size is (inl none) = inl (omega (arith, count, size, ap (λ (z : List SoleState). length z) none))
+spares_gone n g g' d before after count size is (inr full) = inr (omega (arith, full, ap fulls_by is))
+
+pub gives_spares : (n : ℕ) (g d : Option GiverState) (before after : PoolState) → home after + given_by d ≡ home before + given_by g → home before ≡ n → LeavesNoSpare g d after.blocks → GivesSpares n g d
+gives_spares n None d before after count size left = tt
+gives_spares n (Some g) d before after count size left = spares_gone n g left.0 d before after count size left.1 left.2
 
 -- what is said of spares where the lanes are done holds of those of the round that was worked
 pub of_worked : {D E F : Type 0} (done : Result D E) (result : Result WorkedState F) (spares : List SoleState) (P : List SoleState → Type 0)

@@ -336,6 +336,7 @@ all_merged at_sink file ready old new from to before after end is_file h =
       taken = ended.taken;
       least = h.rests.least;
       pauses = h.rests.pauses;
+      gives = h.rests.gives;
       captured = ended.captured;
       later = h.rests.later;
       later_sink = sank.later;

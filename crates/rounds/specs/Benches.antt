@@ -94,6 +94,20 @@ LeavesNoSpare None new spares = Unit {0}
 LeavesNoSpare (Some g) new spares =
     (g' : GiverState) × (new ≡ Some g') × ((spares ≡ []) ⊎ (risen g.pass.fulls ≤ g'.pass.fulls))
 
+-- how many puts of who gives found no place
+abbrev pub fulls_by : Option GiverState → ℕ
+fulls_by None = 0
+fulls_by (Some g) = g.pass.fulls
+
+-- Where somebody gives this holds, or a put found no place: the count of these rose, or stands at its last value.
+abbrev pub UnlessFull : Option GiverState → Option GiverState → Type 0 → Type 0
+UnlessFull None new P = Unit {0}
+UnlessFull (Some g) new P = P ⊎ (risen g.pass.fulls ≤ fulls_by new)
+
+-- so many blocks more were given
+abbrev pub GivesSpares : ℕ → Option GiverState → Option GiverState → Type 0
+GivesSpares n old new = UnlessFull old new (given_by old + n ≤ given_by new)
+
 -- a list against the giver's, where there is one
 abbrev pub Swaps : Option GiverState → Option GiverState → PoolState → PoolState → Type 0
 Swaps None new list list' = (new ≡ None) × (list' ≡ list)

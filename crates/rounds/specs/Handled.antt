@@ -1,8 +1,10 @@
 -- What was done with rounds that were read, one after another.
 use Rattle.std.specs.Prelude.{ℕ, ◌≡◌, ◌⊎◌, ◌+◌, ◌-◌, ◌≤◌, ◌^◌, min, Option, None, Some, List, [], ◌∷◌, ◌++◌, length}
+use Rattle.block_pool.specs.PassState.{risen}
 use Rattle.block_pool.specs.PoolState.{weighed}
 use Rattle.rounds.specs.declared.round.RoundEnd.TheVariants as ends
 use Rattle.rounds.specs.declared.round.RoundRead.{RoundRead}
+use Rattle.rounds.specs.declared.spares.Spares.{Spares}
 use Rattle.rounds.specs.Merging.{options_of}
 use Rattle.rounds.specs.Reads.{Spot, Reads, ReadRound}
 use Rattle.rounds.specs.RoundsState.{RoundsState}
@@ -37,12 +39,20 @@ abbrev pub FewPauses : ℕ → ℕ → ℕ → ℕ → Type 0
 FewPauses empties pauses empties' pauses' =
     (pauses ≤ pauses') × (min (empties + (pauses' - pauses)) (2 ^ 64 - 1) ≤ empties')
 
+-- As many spares more went back while their rounds were worked as these had more, unless a put was refused more, or its
+-- count stands at its last value.
+pub record GaveSpares (old new : Spares) : Type 0 where
+  pub lent : old.lent ≤ new.lent
+  pub gave : (min (old.given + (new.lent - old.lent)) (2 ^ 64 - 1) ≤ new.given) ⊎ (risen old.refused ≤ new.refused)
+  pub refused : old.refused ≤ new.refused
+
 -- all blocks are home, and nothing else is as it wasn't
 pub record Rests (old new : RoundsState) (from to : Spot) : Type 0 where
   pub home : new.home ≡ new.blocks
   pub same : (new.blocks ≡ old.blocks) × (options_of new ≡ options_of old) × (new.keep ≡ old.keep)
   pub least : old.taken ≤ new.taken
   pub pauses : FewPauses old.empties old.pauses new.empties new.pauses
+  pub gives : GaveSpares old.spares new.spares
   pub later : from.faults ≤ to.faults
 
 -- of no more packets than this

@@ -16,7 +16,7 @@ use Rattle.rounds.specs.declared.merge.Step.{Step}
 use Rattle.rounds.specs.declared.merge.Step.TheVariants as steps
 use Rattle.rounds.specs.declared.round.RoundRead.{RoundRead}
 use Rattle.rounds.specs.Merging.{ending_of, options_of, is_worked, Puts, GivesUp, Ahead, TakesTo, HoldsCaptured}
-use Rattle.rounds.specs.Handled.{FewPauses}
+use Rattle.rounds.specs.Handled.{FewPauses, GaveSpares}
 use Rattle.rounds.specs.Reads.{Spot}
 use Rattle.rounds.specs.RoundsState.{RoundsState}
 
@@ -91,6 +91,7 @@ pub record Merged (old new : RoundsState) (from to : Spot) (before after : Sunk)
       (TakesTo old.blocks old.budget from.place from.taken to.taken (ending_of end))
   pub least : old.taken ≤ new.taken
   pub pauses : FewPauses old.empties old.pauses new.empties new.pauses
+  pub gives : GaveSpares old.spares new.spares
   pub captured : Told from.left to.left (HoldsCaptured old.blocks old.budget from.place end)
   pub later : from.faults ≤ to.faults
   pub later_sink : before.faults ≤ after.faults

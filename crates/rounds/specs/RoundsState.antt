@@ -9,8 +9,10 @@ use Rattle.taps.specs.declared.clones.TapClone.{TapClone}
 use Rattle.lanes.specs.declared.lane.Lanes.{Lanes}
 use Rattle.lanes.specs.declared.plan.LanePlan.{LanePlan}
 use Rattle.rounds.specs.declared.round.Empty.{Empty}
+use Rattle.rounds.specs.declared.spares.Spares.{Spares}
 
--- and how many packets a round may have, how its work is divided, and whether a clone of each packet is kept
+-- what became of spares while their rounds were worked, how many packets a round may have, how its work is divided, and
+-- whether a clone of each packet is kept
 pub record RoundsState : Type 0 where
   pub home : ℕ
   pub stock : List SoleState
@@ -18,6 +20,7 @@ pub record RoundsState : Type 0 where
   pub taken : ℕ
   pub empties : ℕ
   pub pauses : ℕ
+  pub spares : Spares
   pub budget : ℕ
   pub plan : LanePlan
   pub keep : Bool

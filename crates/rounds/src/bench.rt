@@ -10,8 +10,8 @@ ghost use Rattle.offload_model.specs.Written.{round_records};
 ghost use Rattle.gro.specs.Slots.{packet_of};
 ghost use Rattle.lanes.specs.Lanes.{AreIdle, IsMerged};
 ghost use Rattle.lanes.specs.Work.{IsPlan};
-ghost use Rattle.rounds.specs.Benches.{options_at, Brings, BringsBeside, IsLent, IsSameBench, LeavesNoSpare, Lends};
-ghost use Rattle.rounds.specs.Benches.{LendsWork, MayBring};
+ghost use Rattle.rounds.specs.Benches.{options_at, Brings, BringsBeside, GivesSpares, IsLent, IsSameBench};
+ghost use Rattle.rounds.specs.Benches.{LeavesNoSpare, Lends, LendsWork, MayBring};
 ghost use Rattle.rounds.specs.Lanes.{worked_bytes, worked_records, IsAloneWork, IsKeptWorkOf, WorksAs};
 ghost use Rattle.rounds.specs.Weights.{weights_of, weights_worked, weights_left};
 
@@ -236,6 +236,8 @@ impl Bench {
         ensures gave { Lends giver.old giver.new }
         ensures none_left { W.gives ≡ true
             → IfOk result (λ worked. LeavesNoSpare giver.old giver.new worked.spares) }
+        ensures gives_spares { W.gives ≡ true
+            → IfOk result (λ _. GivesSpares (length round.spares) giver.old giver.new) }
     {
         match self.work(works, round, giver) {
             Ok(worked) => Ok(worked),
@@ -261,6 +263,8 @@ impl Bench {
         ensures alone { self.old.keep ≡ false → self.old.plan.taps ≡ 0 → IfOk result IsAloneWork }
         ensures lends { LendsWork round.old.blocks (weights_of round.old) giver.old giver.new result }
         ensures spent { (round.new.packets ≡ []) × (round.new.spares ≡ []) }
+        ensures gives_spares { W.gives ≡ true
+            → IfOk result (λ _. GivesSpares (length round.old.spares) giver.old giver.new) }
         ensures same { self.new ≡ self.old }
     {
         let RoundRead {

@@ -1,8 +1,8 @@
 //! What is done with the rounds of a capture.
-ghost use Rattle.std.specs.Prelude.{◌≡◌, ◌+◌, ◌≤◌, ◌^◌, ℕ, Bool, Option, None, length};
+ghost use Rattle.std.specs.Prelude.{◌≡◌, ◌+◌, ◌≤◌, ◌^◌, ℕ, Bool, true, Option, None, length};
 ghost use Rattle.offload_model.specs.Written.{Options};
 ghost use Rattle.rounds.specs.declared.round.RoundRead.{RoundRead as ReadState};
-ghost use Rattle.rounds.specs.Benches.{options_at, BringsBeside, IsLent, IsRead, Lends, MayBring};
+ghost use Rattle.rounds.specs.Benches.{options_at, BringsBeside, GivesSpares, IsLent, IsRead, Lends, MayBring};
 ghost use Rattle.rounds.specs.Weights.{weights_of};
 
 use crate::bench::Bench;
@@ -23,8 +23,8 @@ pub trait RoundHandler<T, E> {
     ghost stopped: { E };
 
     /// Works a round that was read, behind `number` others, does with it what is to be done, and brings it home, to
-    /// wherever that is, but spares that go to others by the giver. One that exceeds the blocks or that there was no
-    /// memory for is given up.
+    /// wherever that is, but spares that go to others by the giver: by who gives (`Works::gives`) all of them, where
+    /// more rounds may follow. One that exceeds the blocks or that there was no memory for is given up.
     fn handle<W: Works>(
         &self,
         works: &mut W,
@@ -45,7 +45,9 @@ pub trait RoundHandler<T, E> {
             → ready (options_at bench.old) bench.old.keep (n + length read.round.packets) into.new }
         ensures brings { BringsBeside read.round.blocks (weights_of read.round) bench.old bench.new home.old home.new
             giver.old giver.new }
-        ensures gave { Lends giver.old giver.new };
+        ensures gave { Lends giver.old giver.new }
+        ensures gives_spares { W.gives ≡ true → result ≡ None
+            → GivesSpares (length read.round.spares) giver.old giver.new };
 
     /// Ends for want of memory.
     fn stop(&self) -> E

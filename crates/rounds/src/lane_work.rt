@@ -1,6 +1,6 @@
 //! Works a round: its packets are merged in lanes.
 ghost use Rattle.std.specs.Prelude.{◌⊎◌, ◌≡◌, ℕ, ◌+◌, ◌≤◌, true, false, [], map, IfOk, IfErr, IsOk, OnOk};
-ghost use Rattle.std.specs.Prelude.{MatchResult};
+ghost use Rattle.std.specs.Prelude.{MatchResult, length};
 ghost use Rattle.std.specs.List.{AllByRecursion};
 ghost use Rattle.offload_model.specs.Captured.{IsCaptured};
 ghost use Rattle.block_weight.specs.WeightRule.{full_weight};
@@ -10,7 +10,7 @@ ghost use Rattle.taps.specs.Clones.{packet_of as packet_of_clone, blocks_of, of_
 ghost use Rattle.lanes.specs.Clones.{AreAfter};
 ghost use Rattle.lanes.specs.Lanes.{weighed_queues};
 ghost use Rattle.block_pool.specs.PoolState.{weighed};
-ghost use Rattle.rounds.specs.Benches.{options_at, IsLent, LeavesNoSpare, LendsWork};
+ghost use Rattle.rounds.specs.Benches.{options_at, GivesSpares, IsLent, LeavesNoSpare, LendsWork};
 ghost use Rattle.reading.specs.Laid.{AreRead, LaidFrom};
 ghost use Rattle.rounds.specs.Kept.{IsKept, IsPrepared, IsDone, IsLeft, IsOfLanes};
 ghost use Rattle.rounds.specs.Lanes.{IsAloneWork, WorksAs};
@@ -95,6 +95,7 @@ impl Bench {
             round.blocks k) }
         ensures named { IfOk result (λ k. (h : ℕ → ℕ) → weighed_slots h k.packets.items + weighed h k.spares.blocks
             ≡ weights_of round h) }
+        ensures spares { IfOk result (λ k. k.spares.blocks ≡ round.spares) }
         ensures rest { IfErr result (λ rest. rest.blocks ≡ round.blocks) }
         ensures named_back { IfErr result (λ rest. (h : ℕ → ℕ) → weights_left rest h ≡ weights_of round h) }
         ensures same { self.new ≡ self.old }
@@ -186,6 +187,8 @@ impl Bench {
         ensures lends { LendsWork round.blocks (weights_of round) giver.old giver.new result }
         ensures none_left { W.gives ≡ true
             → IfOk result (λ worked. LeavesNoSpare giver.old giver.new worked.spares) }
+        ensures gives_spares { W.gives ≡ true
+            → IfOk result (λ _. GivesSpares (length round.spares) giver.old giver.new) }
         ensures same { self.new ≡ self.old }
     {
         let mut kept = self.keep_round(round)?;

@@ -6,6 +6,7 @@ ghost use Rattle.block_pool.specs.Listed.{blocks_in};
 ghost use Rattle.block_pool.specs.PassState.{IsOwn};
 ghost use Rattle.block_pool.specs.PoolState.{home, weighed};
 ghost use Rattle.block_supply.specs.Lists.{HasGiver, weights_listed};
+ghost use Rattle.rounds.specs.Benches.{fulls_by};
 
 use crate::intake::Intake;
 use block_pool::{Giver, ListPass, ListPool};
@@ -35,8 +36,8 @@ fn drain<R: Wait>(rt: &R, lists: &ListPool, pass: &mut ListPass, intake: &mut In
 }
 
 /// All blocks of lists come home, once both sides have ended: those that were given, but for those that were taken. How
-/// often a take found none is told too.
-pub fn bring_lists<R: Wait>(rt: &R, intake: &mut Intake, taker: Taker, giver: Option<Giver>)
+/// often a take found none is told too, and answered how often a put found no place.
+pub fn bring_lists<R: Wait>(rt: &R, intake: &mut Intake, taker: Taker, giver: Option<Giver>) -> u64
     requires giver { HasGiver (arc_value taker.lists) giver }
     requires room { intake.old.home + home taker.left + given_by giver
         ≤ intake.old.blocks + blocks_in taker.pass.taken }
@@ -52,12 +53,15 @@ pub fn bring_lists<R: Wait>(rt: &R, intake: &mut Intake, taker: Taker, giver: Op
     ensures named { (h : ℕ → ℕ) → weighed h intake.new.stock + weights_listed h taker.pass.taken
         ≡ weighed h intake.old.stock + weighed h taker.left.blocks + weights_given giver h }
     ensures rises { intake.old.home ≤ intake.new.home }
+    ensures fulls { result ≡ fulls_by giver }
 {
     let Some(giver) = giver else { unreachable!() };
     let (lists, mut pass, left) = taker.open();
     intake.empties = intake.empties.saturating_add(pass.empties());
     let (_pool, theirs, _none) = giver.open();
+    let refused = theirs.fulls();
     lists.gather(rt, theirs, &mut pass);
     drain(rt, &lists, &mut pass, intake);
     intake.bring_in(left);
+    refused
 }

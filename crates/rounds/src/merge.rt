@@ -1,6 +1,6 @@
 //! Merges the records of a capture, round by round.
 ghost use Rattle.std.specs.Prelude.{◌≡◌, ◌⊎◌, ℕ, ◌+◌, ◌≤◌, ◌^◌, ◌-◌, true, false, Option, List, map, min, IfOk};
-ghost use Rattle.std.specs.Prelude.{MatchResult};
+ghost use Rattle.std.specs.Prelude.{MatchResult, IsOk, length};
 ghost use Rattle.std.specs.Io.KnownBytes.{Appends, Keeps};
 ghost use Rattle.off_io.specs.Content.{SaysFlushed};
 ghost use Rattle.off_io.specs.Faults.{Rose};
@@ -11,7 +11,7 @@ ghost use Rattle.pcap_io.specs.Readers.{place_of, source_of, SameLoan};
 ghost use Rattle.offload_model.specs.Passing.{merging, Passes, PrefixUnless, flushes};
 ghost use Rattle.offload_model.specs.Steps.{round_output};
 ghost use Rattle.gro.specs.Slots.{packet_of};
-ghost use Rattle.rounds.specs.Benches.{options_at, Brings, BringsBeside, IsLent, Lends, MayBring};
+ghost use Rattle.rounds.specs.Benches.{options_at, Brings, BringsBeside, GivesSpares, IsLent, Lends, MayBring};
 ghost use Rattle.rounds.specs.Lanes.{worked_bytes};
 ghost use Rattle.rounds.specs.Weights.{weights_of, weights_worked};
 ghost use Rattle.block_pool.specs.PoolState.{weighed};
@@ -110,6 +110,7 @@ impl Bench {
         ensures brings { MatchResult worked
             (λ w. Brings w.blocks (weights_worked w) self.old self.new home.old home.new)
             (λ _. (self.new ≡ self.old) × (home.new ≡ home.old)) }
+        ensures worked { result ≡ Step.Goes → IsOk worked }
         ensures later { K.faults sink.old ≤ K.faults sink.new }
         ensures rose { IfEnds result (λ end. end ≡ MergeEnd.WriteFault → Rose (K.faults sink.old) (K.faults sink.new)) }
     {
@@ -183,6 +184,8 @@ impl Bench {
         ensures brings { BringsBeside read.round.blocks (weights_of read.round) self.old self.new home.old home.new
             giver.old giver.new }
         ensures gave { Lends giver.old giver.new }
+        ensures gives_spares { W.gives ≡ true → result ≡ Step.Goes
+            → GivesSpares (length read.round.spares) giver.old giver.new }
         ensures later { K.faults sink.old ≤ K.faults sink.new }
         ensures rose { IfEnds result (λ end. end ≡ MergeEnd.WriteFault → Rose (K.faults sink.old) (K.faults sink.new)) }
     {

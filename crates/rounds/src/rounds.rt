@@ -27,6 +27,7 @@ use crate::bench::Bench;
 use crate::handler::RoundHandler;
 use crate::intake::Intake;
 use crate::round::{ReadAhead, Rest, Round, RoundEnd, RoundRead, Worked};
+use crate::spares::Spares;
 use block_supply::AllHome;
 use lanes::{LanePlan, Works};
 use off_io::{Sink, Source, WriteFault};
@@ -42,6 +43,8 @@ pub struct Rounds {
     pub intake: Intake,
     /// Works and writes them.
     pub bench: Bench,
+    /// What became of the spares of rounds that were worked beside a reader.
+    pub spares: Spares,
 }
 
 impl Model for Rounds {
@@ -57,6 +60,7 @@ impl Model for Rounds {
       taken = r.intake.taken;
       empties = r.intake.empties;
       pauses = r.intake.pauses;
+      spares = r.spares;
       budget = r.bench.budget;
       plan = r.bench.plan;
       keep = r.bench.keep;
@@ -87,6 +91,7 @@ impl Rounds {
           taken = 0;
           empties = 0;
           pauses = 0;
+          spares = record { lent = 0; given = 0; refused = 0 };
           budget = budget;
           plan = plan;
           keep = keep;
@@ -95,7 +100,11 @@ impl Rounds {
     {
         let intake = Intake::make(alloc, blocks, budget)?;
         let bench = Bench::make(alloc, blocks, budget, plan, keep)?;
-        Ok(Rounds { intake, bench })
+        Ok(Rounds {
+            intake,
+            bench,
+            spares: Spares::none(),
+        })
     }
 
     /// The blocks that are home.
@@ -128,6 +137,14 @@ impl Rounds {
         ensures value { result ≡ self.now.pauses }
     {
         self.intake.pauses()
+    }
+
+    /// What became of the spares of rounds that were worked beside a reader: as many went back meanwhile as these rounds
+    /// had, unless a put found no place.
+    pub fn spares(&self) -> Spares
+        ensures value { result ≡ self.now.spares }
+    {
+        self.spares
     }
 
     /// The blocks that were made.
@@ -168,7 +185,8 @@ impl Rounds {
         ensures named { (h : ℕ → ℕ) → weighed h self.new.stock + weights_of result.round h ≡ weighed h self.old.stock }
         ensures same { (self.new.blocks ≡ self.old.blocks) × (options_of self.new ≡ options_of self.old)
             × (self.new.keep ≡ self.old.keep) }
-        ensures counts { (self.new.empties ≡ self.old.empties) × (self.new.pauses ≡ self.old.pauses) }
+        ensures counts { (self.new.empties ≡ self.old.empties) × (self.new.pauses ≡ self.old.pauses)
+            × (self.new.spares ≡ self.old.spares) }
         ensures budget { (1 ≤ self.old.budget) × (self.old.budget ≤ 4096) }
         ensures taken { min (self.old.taken + result.round.blocks) (2 ^ 64 - 1) ≤ self.new.taken }
         ensures least { self.old.taken ≤ self.new.taken }

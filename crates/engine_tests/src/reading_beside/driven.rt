@@ -61,6 +61,42 @@ fn merged<S: Source + Send + Drop, K: Sink, G: Gate + Sync>(
     (end, rounds.home(), rounds.taken())
 }
 
+// What became of the spares of four records that are merged by two sides.
+fn spares_of(rt: &(impl Threads + Wait + Abort + Sync), alloc: Global, how: How) -> (u64, u64, u64) {
+    let mut feed = Feed {
+        inner: source_of(rt, alloc, &capture(rt, alloc, 1), &[]),
+    };
+    let Ok(mut reader) = CaptureReader::start(&mut feed, Link::Ethernet) else {
+        panic!(rt; "the file header is lawful");
+    };
+    let file = reader.file();
+    let mut rounds = rounds_of(rt, alloc, how, 64);
+    let mut sink = sink_of(rt, alloc, 4096, &[]);
+    let _ = merge_beside(
+        rt,
+        alloc,
+        &mut rounds,
+        &mut reader,
+        &file,
+        &mut sink,
+        &NoGate,
+    );
+    let spares = rounds.spares();
+    (spares.lent, spares.given, spares.refused)
+}
+
+// Two of each record: in one thread, and with those who run lanes, where the last round isn't full.
+#[test]
+fn spares_go_back_while_their_round_is_worked(rt: HostRuntime) {
+    let alloc = rt.alloc();
+    let (one, crewed) = if reads_beside(&rt) { (8, 6) } else { (0, 0) };
+    let seen = (
+        spares_of(&rt, alloc, FEWEST),
+        spares_of(&rt, alloc, CREWED),
+    );
+    assert!(rt; seen == ((one, one, 0), (crewed, crewed, 0)));
+}
+
 // Both ways write the same, and end in the same way, with all blocks home.
 fn same_both_ways(
     rt: &(impl Threads + Wait + Abort + Sync),

@@ -1,21 +1,24 @@
-use Rattle.std.proofs.Common.{◌≡◌, ◌≤◌, ◌∙◌, ℕ, All, Result, Ok, Err, IsErr, MatchResult, IfOk, IfErr, ◌+◌, map, ap, subst, arith}
+use Rattle.std.proofs.Common.{◌≡◌, ◌≤◌, ◌∙◌, ℕ, All, Option, Some, Result, Ok, Err, IsErr, MatchResult, IfOk, IfErr, ◌+◌, inl, inr, length, map, ap, subst, arith}
 use Rattle.std.proofs.lemmas.Bool.{false≢true}
-use Rattle.block_pool.specs.Giving.{given_by, given_in}
+use Rattle.block_pool.specs.Giving.{given_by, given_in, GiverState}
 use Rattle.block_pool.specs.Listed.{blocks_in}
+use Rattle.block_pool.specs.PassState.{risen}
 use Rattle.block_pool.specs.PoolState.{home}
 use Rattle.block_supply.proofs.Listing.{listed_ones}
 use Rattle.block_supply.specs.declared.taker.Taker.{Taker}
 use Rattle.offload_model.specs.Written.{round_records}
 use Rattle.gro.specs.Slots.{packet_of}
 use Rattle.lanes.specs.Lanes.{IsMerged}
-use Rattle.rounds.specs.Benches.{options_at}
+use Rattle.rounds.specs.Benches.{fulls_by, options_at, GivesSpares}
+use Rattle.rounds.specs.declared.round.ReadAhead.{ReadAhead}
+use Rattle.rounds.specs.declared.spares.Spares.{Spares}
 use Rattle.rounds.specs.Filling.{reached, FillsAhead}
 use Rattle.rounds.specs.Lanes.{worked_records, IsKeptWorkOf, WorksAs}
 use Rattle.rounds.specs.Merging.{options_of}
 use Rattle.rounds.specs.Ahead.{round_of}
 use Rattle.rounds.specs.RoundsState.{BenchState, IntakeState, RestState, RoundsState, WorkedState}
 use Rattle.rounds.proofs.Pausing.{unread_ahead}
-use Rattle.ahead.specs.Out.{blocks_out}
+use Rattle.ahead.specs.Out.{blocks_out, GaveWorked}
 use Rattle.ahead.proofs.ahead.work_listed.Given as given
 use Rattle.ahead.proofs.ahead.work_listed.Goals.{After-work_beside-read}
 use Rattle.ahead.proofs.ahead.work_listed.Goals as goal
@@ -31,6 +34,23 @@ closed_empties : (worked : Result WorkedState RestState) (old new : RoundsState)
     → MatchResult worked (λ _. new ≡ old) (λ rest. new ≡ record old { home = old.home + rest.blocks; stock = new.stock }) → new.empties ≡ old.empties
 closed_empties (Ok w) old new is = ap (λ (s : RoundsState). s.empties) is
 closed_empties (Err rest) old new is = ap (λ (s : RoundsState). s.empties) is
+
+closed_spares : (worked : Result WorkedState RestState) (old new : RoundsState)
+    → MatchResult worked (λ _. new ≡ old) (λ rest. new ≡ record old { home = old.home + rest.blocks; stock = new.stock }) → new.spares ≡ old.spares
+closed_spares (Ok w) old new is = ap (λ (s : RoundsState). s.spares) is
+closed_spares (Err rest) old new is = ap (λ (s : RoundsState). s.spares) is
+
+-- its spares were given, or a put was refused
+gave_worked : (n blocks refused refused' : ℕ) (from : GiverState) (to : Option GiverState) (read : ReadAhead) (worked : Result WorkedState RestState)
+    → IfOk worked (λ w. w.blocks + given_by to ≡ blocks + given_in from) → IfOk worked (λ _. GivesSpares n (Some from) to) → (risen from.pass.fulls ≤ fulls_by to → risen refused ≤ refused')
+    → IfOk worked (GaveWorked n blocks refused refused' read)
+gave_worked n blocks refused refused' from to read (Ok w) out (inl gave) step = inl (omega (arith, out, gave))
+gave_worked n blocks refused refused' from to read (Ok w) out (inr full) step = inr (inl (step full))
+gave_worked n blocks refused refused' from to read (Err rest) out gives step = tt
+
+all_ok : {A E : Type 0} {P : A → Type 0} (result : Result A E) → ((x : A) → P x) → IfOk result P
+all_ok (Ok x) all = all x
+all_ok (Err e) all = tt
 
 -- of its blocks those that weren't given are out, or come home
 closed_home : {E : Type 0} (blocks from given : ℕ) (worked : Result WorkedState RestState) (result : Result WorkedState E) (old new : RoundsState) → MatchResult worked (λ w. result ≡ Ok w) (λ _. IsErr result)
@@ -144,3 +164,15 @@ returns-clause-later_empties g c =
       c.bring_lists.ensures.later,
       closed_empties w.result.1 _ c.close_work.new.rounds c.close_work.ensures.home,
     )
+
+pub returns-then-is_err-clause-gives : goal.returns-then-is_err-clause-gives
+returns-then-is_err-clause-gives g c = λ gives. all_ok c.work_round.result (λ w. inr (inr c.read_none-none.ensures.end))
+
+pub returns-clause-gives : goal.returns-clause-gives
+returns-clause-gives g c = λ gives.
+    let w = c.work_beside-read in
+    let refused = ap (λ (s : Spares). s.refused) (closed_spares w.result.1 _ c.close_work.new.rounds c.close_work.ensures.home) in
+    let before = ap (λ (s : RoundsState). s.spares.refused) c.rounds.view_is in
+    closed_ok (GaveWorked (length c.args.round.spares) c.args.round.blocks c.args.rounds.now.spares.refused c.close_work.new.rounds.spares.refused w.result.0) w.result.1 c.close_work.result c.close_work.ensures.worked
+    (gave_worked (length c.args.round.spares) c.args.round.blocks c.args.rounds.now.spares.refused c.close_work.new.rounds.spares.refused c.args.giver w.new.giver w.result.0 w.result.1 w.ensures.lends.worked
+    (w.ensures.gives_spares gives) (λ full. omega (arith, full, refused, before, c.bring_lists.ensures.fulls, ap (λ (s : Spares). s.refused) c.refuse.ensures.counted)))

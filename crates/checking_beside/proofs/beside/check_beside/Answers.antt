@@ -43,6 +43,9 @@ returns-clause-taken g c = (checked g c).taken
 pub returns-clause-pauses : goal.returns-clause-pauses
 returns-clause-pauses g c = (checked g c).pauses
 
+pub returns-clause-gives : goal.returns-clause-gives
+returns-clause-gives g c = (checked g c).gives
+
 pub returns-clause-least : goal.returns-clause-least
 returns-clause-least g c = (checked g c).least
 

@@ -1,6 +1,6 @@
-use Rattle.std.proofs.Common.{length, sym, subst, arith}
+use Rattle.std.proofs.Common.{◌+◌, ◌≤◌, length, max, sym, subst, arith}
 use Rattle.std.specs.Vec.{with_items}
-use Rattle.lane_crew.specs.Givers.{carried, Divided}
+use Rattle.lane_crew.specs.Givers.{carried, Divided, HaveShares}
 use Rattle.lane_crew.specs.Tasks.{SentQueues, SentTaps}
 use Rattle.lane_crew.proofs.Dividing.{divided_same}
 use Rattle.lanes.proofs.Listing.{refilled}
@@ -26,4 +26,8 @@ returns g c =
           q t;
       divided = c.send_taps.ensures.carried giver (c.send_queues.ensures.carried giver
           (subst (λ z. Divided giver giver (carried z)) (sym c.requires.none) (divided_same giver)));
+      shares =
+          let n = max 1 (length old.queues.items + length old.taps.items) in
+          let le : max 1 c.min-at_work.result ≤ n = omega (arith, c.min-at_work.ensures, c.saturating_add-all.ensures, c.len.ensures, c.len-2.ensures, old.queues.ok, old.taps.ok) in
+          c.send_taps.ensures.shares n le (c.send_queues.ensures.shares n le (subst (HaveShares n giver) (sym c.requires.none) tt));
     }

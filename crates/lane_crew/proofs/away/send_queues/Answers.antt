@@ -1,14 +1,14 @@
-use Rattle.std.proofs.Common.{◌≡◌, ◌+◌, [], ◌∷◌, ◌++◌, refl, sym, ap, ◌∙◌, subst, arith, ℕ, le_refl, le_antisymm}
+use Rattle.std.proofs.Common.{◌≡◌, ◌+◌, [], ◌∷◌, ◌++◌, sym, ap, ◌∙◌, subst, arith, ℕ, le_refl, le_antisymm}
 use Rattle.std.specs.VecDeque.{deque_len, deque_capacity, deque_items}
 use Rattle.lane_crew.specs.declared.tasks.LaneTask.TheVariants as asked
 use Rattle.lane_crew.specs.Givers.{carried}
 use Rattle.lanes.specs.Lanes.{DidQueue, IsFilled}
 use Rattle.lane_crew.specs.Tasks.{IsOfQueues, IsElseQueue, Parted, SentQueues}
-use Rattle.lane_crew.proofs.Dividing.{divided_is, divided_sent}
+use Rattle.lane_crew.proofs.Dividing.{divided_is, divided_sent, shares_is, shares_sent}
 use Rattle.lanes.proofs.Listing.{all_behind}
 use Rattle.lane_crew.proofs.Returning.{one_more, parted_here, parted_sent, own_queue}
 use Rattle.lane_crew.proofs.away.send_queues.Goals as goal
-use Rattle.lane_crew.proofs.away.send_queues.Goals.{then-is_empty, else-is_empty}
+use Rattle.lane_crew.proofs.away.send_queues.Goals.{in-Some, in-None}
 
 pub loop-at-preserved : goal.loop-at-preserved
 loop-at-preserved g c =
@@ -18,38 +18,41 @@ loop-at-preserved g c =
     let at = c.loop-at.at in
     let i = c.loop-at.invariant in
     let more = i.sent.0 in
-    elim c.if-is_empty.branch [
-      | then-is_empty w ↦ record {
+    elim c.match-part_if.branch [
+      | in-None w ↦ record {
         sent = (
           more,
           ap deque_items w.tasks-is ∙ i.sent.1,
           i.sent.2,
           subst (λ z. Parted (DidQueue segs) IsElseQueue (at + 1) old z more) (sym w.queues-is)
-              (parted_here (DidQueue segs) IsElseQueue at (at + 1) old now more w.index-queues-at-then-is_empty.result w.work.new.lane (omega arith) c.loop-at-test.true w.work.ensures.did i.sent.3),
+              (parted_here (DidQueue segs) IsElseQueue at (at + 1) old now more w.index-queues-at-in-None.result w.work.new.lane (omega arith) c.loop-at-test.true w.work.ensures.did i.sent.3),
         );
-        carried_on = λ o d. divided_is o c.loop-at.giver c.if-is_empty.giver c.loop-at.tasks.items c.if-is_empty.tasks.items w.giver-is (ap deque_items w.tasks-is) (i.carried_on o d);
+        carried_on = λ o d. divided_is o c.loop-at.giver c.part_if.new.giver c.loop-at.tasks.items c.match-part_if.tasks.items w.in-None.ensures.carried (ap deque_items w.tasks-is) (i.carried_on o d);
+        shares_on = λ n le h. shares_is n c.loop-at.giver c.part_if.new.giver c.loop-at.tasks.items c.match-part_if.tasks.items w.in-None.ensures.carried (ap deque_items w.tasks-is) (i.shares_on n le h);
         few = omega (arith, i.few, ap deque_len w.tasks-is);
         room = ap deque_capacity w.tasks-is ∙ i.room;
       }
-      | else-is_empty w ↦
+      | in-Some w ↦
           let t = asked.Queue w.new.result in
-          let x = w.index-queues-at-else-is_empty.result in
-          let own = own_queue segs at old now x w.take_queue-lane.result w.carry-part.result w.new.result w.new.ensures.same w.take_queue-lane.ensures.same (i.sent.3.rest at x (omega arith)) c.loop-at-test.true in
+          let x = w.index-queues-at-in-Some.result in
+          let own = own_queue segs at old now x w.take_queue-lane.result w.in-Some.part w.new.result w.new.ensures.same w.take_queue-lane.ensures.same (i.sent.3.rest at x (omega arith)) c.loop-at-test.true in
           record {
             sent = (
               more ++ t ∷ [],
-              one_more c.if-is_empty.tasks.items c.loop-at.tasks.items c.args.tasks.now.items more t (subst (λ z. z.items ≡ c.loop-at.tasks.items ++ t ∷ [])
+              one_more c.match-part_if.tasks.items c.loop-at.tasks.items c.args.tasks.now.items more t (subst (λ z. z.items ≡ c.loop-at.tasks.items ++ t ∷ [])
                   (sym w.tasks-is) w.push_back_reserved.ensures.items) i.sent.1,
               all_behind (IsOfQueues segs old) more (t ∷ []) i.sent.2 (own, tt),
               subst (λ z. Parted (DidQueue segs) IsElseQueue (at + 1) old z (more ++ t ∷ [])) (sym w.queues-is)
                   (parted_sent (DidQueue segs) IsElseQueue at (at + 1) old now more t w.take_queue-lane.new.lane (omega arith) (λ apart. apart (ap (λ z. z.at) w.new.ensures.same)) i.sent.3),
             );
             carried_on = λ o d.
-                let us = c.if-is_empty.tasks.items in
-                let mine = w.carry-part.new.giver in
-                divided_is o mine c.if-is_empty.giver us us w.giver-is refl
-                (divided_sent o c.loop-at.giver mine w.carry-part.result c.loop-at.tasks.items us t (ap deque_items w.tasks-is ∙ w.push_back_reserved.ensures.items)
-                (ap (λ z. z.giver) w.new.ensures.same) (w.carry-part.ensures.carried o (carried c.loop-at.tasks.items)) (i.carried_on o d));
+                let us = c.match-part_if.tasks.items in
+                divided_sent o c.loop-at.giver c.part_if.new.giver w.in-Some.part c.loop-at.tasks.items us t (ap deque_items w.tasks-is ∙ w.push_back_reserved.ensures.items)
+                (ap (λ z. z.giver) w.new.ensures.same) (w.in-Some.ensures.carried.divided o (carried c.loop-at.tasks.items)) (i.carried_on o d);
+            shares_on = λ n le h.
+                let us = c.match-part_if.tasks.items in
+                shares_sent _ n c.loop-at.giver c.part_if.new.giver w.in-Some.part c.loop-at.tasks.items us t (omega (arith, le, c.saturating_sub.ensures))
+                (ap deque_items w.tasks-is ∙ w.push_back_reserved.ensures.items) (ap (λ z. z.giver) w.new.ensures.same) w.in-Some.ensures.carried (i.shares_on n le h);
             few = omega (arith, i.few, ap deque_len w.tasks-is, w.push_back_reserved.ensures.len);
             room = ap deque_capacity w.tasks-is ∙ w.push_back_reserved.ensures.capacity ∙ i.room;
           }
@@ -58,13 +61,13 @@ loop-at-preserved g c =
 pub work-requires : goal.work-requires
 work-requires g c =
     let l = c.loop-at in
-    let x = c.index-queues-at-then-is_empty.result in
+    let x = c.index-queues-at-in-None.result in
     record { filled = subst IsFilled (sym (l.invariant.sent.3.rest l.at x (le_refl l.at))) (c.requires.filled l.at x c.loop-at-test.true) }
 
 pub new-requires : goal.new-requires
 new-requires g c =
     let l = c.loop-at in
-    let x = c.index-queues-at-else-is_empty.result in
+    let x = c.index-queues-at-in-Some.result in
     record { filled = subst IsFilled (sym (c.take_queue-lane.ensures.same ∙ l.invariant.sent.3.rest l.at x (le_refl l.at))) (c.requires.filled l.at x c.loop-at-test.true) }
 
 pub returns-clause-sent : goal.returns-clause-sent

@@ -1,4 +1,4 @@
-use Rattle.std.proofs.Common.{◌≡◌, ℕ, ◌∙◌, ◌+◌, ◌^◌, ◌<◌, ◌≤◌, ◌++◌, Some, List, ap, sym, subst, refl, length}
+use Rattle.std.proofs.Common.{◌≡◌, ℕ, ◌∙◌, ◌+◌, ◌-◌, ◌^◌, ◌<◌, ◌≤◌, ◌++◌, min, Some, List, ap, sym, subst, refl, length}
 use Rattle.std.specs.Arc.{arc_value}
 use Rattle.block_pool.specs.Giving.{given_by, weights_given}
 use Rattle.block_pool.specs.Listed.{blocks_in}
@@ -10,6 +10,8 @@ use Rattle.rounds.specs.Merging.{options_of}
 use Rattle.rounds.specs.RoundsState.{BenchState, IntakeState, RoundsState}
 use Rattle.rounds.specs.Weights.{weights_of}
 use Rattle.rounds.specs.declared.round.RoundRead.{RoundRead}
+use Rattle.rounds.specs.declared.spares.Spares.{Spares}
+use Rattle.rounds.specs.Handled.{GaveSpares}
 use Rattle.pipeline.specs.declared.parcel.Parcel.{Parcel}
 use Rattle.pipeline.specs.Handled.{blocks_out, weights_out}
 use Rattle.block_supply.specs.Lists.{HasGiver, weights_listed}
@@ -19,7 +21,7 @@ use Rattle.pipeline.proofs.Rows.{blocks_append, sum_of_both, weights_sent_append
 use Rattle.pipeline.proofs.Counting.{all_counted, all_out, all_weighed, few_home, room_home, room_later, room_left, whole_home}
 use Rattle.rounds.proofs.Going.{counted_as, ready_as}
 use Rattle.pipeline.proofs.Together.{all_went, ends_as, idle_as, left_out, left_weights, one_again}
-use Rattle.pipeline.proofs.Lending.{giver_back}
+use Rattle.pipeline.proofs.Lending.{gave_home, giver_back}
 use Rattle.pipeline.proofs.drive.handle_named.Given as given
 use Rattle.pipeline.proofs.drive.handle_named.Goals as goal
 use Rattle.pipeline.proofs.drive.handle_named.Goals.{After-ending-ended}
@@ -88,14 +90,14 @@ bring_home-requires g c =
       room = room_home (blocks_of (known_items c.ending-ended.new.from)) (blocks_out c.ending-ended.result) (blocks_in c.close-taker.result.pass.taken) (counted g (goal.at.bring_home-requires g c).After-ending-ended) (r.same.0 ∙ ap (λ (s : RoundsState). s.blocks) c.rounds.view_is);
     }
 
-abbrev lent : IntakeState → BenchState → RoundsState
-lent i b = record { home = i.home; stock = i.stock; blocks = i.blocks; taken = i.taken; empties = i.empties; pauses = i.pauses; budget = b.budget; plan = b.plan; keep = b.keep }
+abbrev lent : IntakeState → Spares → BenchState → RoundsState
+lent i s b = record { home = i.home; stock = i.stock; blocks = i.blocks; taken = i.taken; empties = i.empties; pauses = i.pauses; spares = s; budget = b.budget; plan = b.plan; keep = b.keep }
 
 pub returns-in_default-clause-handled : goal.returns-in_default-clause-handled
 returns-in_default-clause-handled g c = (
   refl,
   idle_as c.args.rounds.now _ (reader_at g.S.Source.left g.S.Source.faults c.args.reader.now c.args.rounds.now.taken) c.args.into.now
-      (ap (lent c.rounds.inside.intake) c.prepare.ensures.same ∙ c.rounds.view_is),
+      (ap (lent c.rounds.inside.intake c.rounds.inside.spares) c.prepare.ensures.same ∙ c.rounds.view_is),
 )
 
 pub invariant_of-rounds-2 : goal.invariant_of-rounds-2
@@ -159,6 +161,10 @@ returns-clause-handled g c =
       after = ap (λ (s : RoundsState). s.taken) d ∙ ap (λ (i : IntakeState). i.taken) f.same;
       pauses = few_home c.new.result.taker.pass.empties r.paused (ap (λ (s : RoundsState). s.pauses) d ∙ ap (λ (i : IntakeState). i.pauses) f.same) (ap (λ (s : RoundsState). s.pauses) view)
           (ap (λ (s : RoundsState). s.empties) d ∙ f.empties) (r.same.2 ∙ ap (λ (s : RoundsState). s.empties) view) (ap (λ t. t.pass.empties) c.close-taker.ensures.same);
+      gives = subst (λ (s : Spares). GaveSpares s new.spares) (ap (λ (s : RoundsState). s.spares) view)
+          (subst (GaveSpares c.rounds.inside.spares) (sym (ap (λ (s : RoundsState). s.spares) d))
+          (gave_home _ c.rounds.inside.spares c.run_sides-end.new.spares c.refuse.new.self w.giver c.run_sides-end.new.giver k.spares
+          (c.refuse.ensures.counted ∙ ap (λ (n : ℕ). record c.run_sides-end.new.spares { refused = min (c.run_sides-end.new.spares.refused + n) (2 ^ 64 - 1) }) f.fulls) c.refuse.ensures.later));
     })
     (record {
       out = c.requires.out.out;

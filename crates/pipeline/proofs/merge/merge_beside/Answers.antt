@@ -57,3 +57,6 @@ returns-clause-read g c = (merged g c).read
 
 pub returns-clause-write : goal.returns-clause-write
 returns-clause-write g c = (merged g c).write
+
+pub returns-clause-gives : goal.returns-clause-gives
+returns-clause-gives g c = (merged g c).gives

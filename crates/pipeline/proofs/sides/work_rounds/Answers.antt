@@ -1,24 +1,24 @@
-use Rattle.std.proofs.Common.{◌≡◌, ◌+◌, ◌≤◌, ◌^◌, ℕ, ◌∙◌, [], ◌∷◌, None, Some, List, refl, inr, sym, ap, subst, arith, length}
+use Rattle.std.proofs.Common.{◌≡◌, ◌+◌, ◌-◌, ◌≤◌, ◌^◌, ℕ, ◌∙◌, le_refl, [], ◌∷◌, None, Some, List, refl, inr, sym, ap, subst, arith, length}
 use Rattle.block_pool.specs.Giving.{given_by, weights_given}
 use Rattle.block_pool.specs.PoolState.{home, weighed}
 use Rattle.rtrb.specs.Ring.{received}
-use Rattle.rounds.specs.Benches.{options_at, IsRead, Lends}
+use Rattle.rounds.specs.Benches.{options_at, GivesSpares, IsRead, Lends}
 use Rattle.rounds.specs.RoundsState.{BenchState}
 use Rattle.rounds.specs.Weights.{weights_of}
 use Rattle.rounds.specs.declared.round.RoundRead.{RoundRead}
 use Rattle.rounds.specs.Handled.{Ends, IsReadyAtEnd, Went}
 use Rattle.pipeline.specs.declared.parcel.Parcel.{Parcel}
-use Rattle.pipeline.specs.Parcels.{blocks_of, last_blocks, packets_of, rounds_of, weights_sent, IsLeft}
+use Rattle.pipeline.specs.Parcels.{blocks_of, last_blocks, packets_of, rounds_of, spares_before, spares_of, weights_sent, CountsSpares, IsLeft}
 use Rattle.rounds.proofs.Going.{ready_as, went_more, went_ends, went_stopped}
 use Rattle.block_supply.proofs.Listing.{weighed_none}
-use Rattle.pipeline.proofs.Rows.{blocks_last, last_is, packets_append, packets_none, rounds_last, weights_sent_append}
+use Rattle.pipeline.proofs.Rows.{before_few, before_last, blocks_last, last_is, packets_append, packets_none, rounds_last, spares_last, weights_sent_append}
 use Rattle.pipeline.proofs.Together.{handled_as}
 use Rattle.pipeline.proofs.Kept.{bench_then, consumer_then}
 use Rattle.pipeline.proofs.Counting.{came_more, left_last, may_bring, room_kept, room_more}
-use Rattle.pipeline.proofs.Lending.{given_least, left_again, left_few, left_then, lends_same, lends_then, lent_again, returns_fewer}
+use Rattle.pipeline.proofs.Lending.{counts_again, counts_more, counts_none, given_least, left_again, left_few, left_then, lends_same, lends_then, lent_again, returns_fewer}
 use Rattle.pipeline.proofs.sides.work_rounds.Given as given
 use Rattle.pipeline.proofs.sides.work_rounds.Goals as goal
-use Rattle.pipeline.proofs.sides.work_rounds.Goals.{After-handle, In-None-handle}
+use Rattle.pipeline.proofs.sides.work_rounds.Goals.{After-handle, After-count, In-None-handle}
 
 -- where the blocks of all rounds are that came, once the last of them was handled
 came : (g : given.Over) (c : After-handle g) → home c.handle.new.home + given_by c.handle.new.giver ≡ blocks_of (received c.next_round.new.from) + given_by c.args.giver.now
@@ -50,6 +50,41 @@ left_on g c =
     (ap (λ (r : RoundRead). r.round.blocks) c.open-number.ensures.same.1) (last_is (received c.loop.from) (received c.next_round.new.from) c.in-Some-next_round.parcel item.came))
     (left_again 0 0 c.loop.list c.next_round.new.list c.args.giver.now c.loop.giver c.next_round.new.giver r.gave
     (λ few. omega (arith, few, returns_fewer c.loop.giver c.next_round.new.giver c.loop.list c.next_round.new.list r)) c.loop.invariant.left)
+
+-- of those before it the spares were given
+spares_on : (g : given.Over) (c : After-handle g)
+    → CountsSpares (spares_of (received c.loop.from)) c.args.spares.now c.loop.spares c.args.giver.now c.handle.new.giver
+spares_on g c =
+    counts_again _ _ c.args.spares.now c.loop.spares c.args.giver.now c.loop.giver c.handle.new.giver (le_refl (spares_of (received c.loop.from)))
+    (lends_then c.loop.giver c.next_round.new.giver c.handle.new.giver c.next_round.ensures.returns.gave c.handle.ensures.gave) c.loop.invariant.spares
+
+spares_left : (g : given.Over) (c : After-handle g)
+    → CountsSpares (spares_before (received c.next_round.new.from)) c.args.spares.now c.loop.spares c.args.giver.now c.handle.new.giver
+spares_left g c =
+    subst (λ (n : ℕ). CountsSpares n c.args.spares.now c.loop.spares c.args.giver.now c.handle.new.giver)
+    (sym (before_last (received c.loop.from) (received c.next_round.new.from) c.in-Some-next_round.parcel c.in-Some-next_round.ensures.item.came)) (spares_on g c)
+
+-- what went of so many blocks, of which the others came to a list
+went_elsewhere : (gone before blocks after given given' : ℕ) → gone ≡ before + blocks - after → after + given' ≡ before + blocks + given → given ≤ given' → gone + given ≡ given'
+went_elsewhere gone before blocks after given given' is count least = omega arith
+
+-- and its own
+spares_more : (g : given.Over) (c : After-count g)
+    → CountsSpares (spares_of (received c.next_round.new.from)) c.args.spares.now c.count.new.self c.args.giver.now c.handle.new.giver
+spares_more g c =
+    let p = c.in-Some-next_round.parcel in
+    let o = c.open-number.ensures.same.1 in
+    let n = spares_of (received c.loop.from) in
+    let is = ap spares_of c.in-Some-next_round.ensures.item.came ∙ spares_last (received c.loop.from) p in
+    subst (λ (k : ℕ). CountsSpares k c.args.spares.now c.count.new.self c.args.giver.now c.handle.new.giver)
+    (omega (arith, is, ap (λ (r : RoundRead). length r.round.spares) o, c.spares-lent.ensures.spares))
+    (counts_more n c.spares-lent.result c.gone.result c.args.spares.now c.loop.spares c.count.new.self c.args.giver.now c.next_round.new.giver c.handle.new.giver
+    (lends_then c.args.giver.now c.loop.giver c.next_round.new.giver c.loop.invariant.lends c.next_round.ensures.returns.gave) c.handle.ensures.gave
+    (went_elsewhere c.gone.result c.home-before.result c.blocks-blocks.result (home c.handle.new.home) (given_by c.next_round.new.giver) (given_by c.handle.new.giver) c.gone.ensures.value
+    (omega (arith, c.handle.ensures.brings.count, c.home-before.ensures.home, c.blocks-blocks.ensures.blocks)) (given_least c.next_round.new.giver c.handle.new.giver c.handle.ensures.gave))
+    (counts_again n n c.args.spares.now c.loop.spares c.args.giver.now c.loop.giver c.next_round.new.giver (le_refl n) c.next_round.ensures.returns.gave c.loop.invariant.spares)
+    (subst (λ (k : ℕ). GivesSpares k c.next_round.new.giver c.handle.new.giver) (sym c.spares-lent.ensures.spares) (c.in-None-handle.ensures.gives_spares c.requires.gives refl))
+    c.count.ensures.counted c.count.ensures.later)
 
 -- what holds behind it
 few_on : (g : given.Over) (c : After-handle g) → packets_of (rounds_of (received c.next_round.new.from)) ≤ 2 ^ 32 + 4096
@@ -125,6 +160,7 @@ loop-init g c =
       named = λ h. omega (arith, weighed_none h c.args.list.now.blocks a.empty, ap (weights_sent h) a.none);
       lends = lends_same giver a.lent;
       left = left_few 0 c.args.list.now giver giver (omega (arith, a.empty));
+      spares = counts_none (spares_of (received c.args.from.now)) c.args.spares.now giver giver (ap spares_of a.none);
       went = subst (λ xs. Went (g.H.RoundHandler.did c.args.handler.now (options_at first)) 0 into into (rounds_of xs)) (sym a.none) refl;
       few = packets_none (2 ^ 32 + 4096) (received c.args.from.now) a.none;
       ready = subst (λ xs. g.H.RoundHandler.ready (options_at first) first.keep (packets_of (rounds_of xs)) into) (sym a.none) a.start;
@@ -146,6 +182,8 @@ returns-in_default-clause-worked g c =
       lends = lends_then c.args.giver.now l.giver c.next_round.new.giver i.lends r.gave;
       none_left = left_again 0 (last_blocks (received c.next_round.new.from)) l.list c.next_round.new.list c.args.giver.now l.giver c.next_round.new.giver r.gave
           (λ few. omega (arith, few, returns_fewer l.giver c.next_round.new.giver l.list c.next_round.new.list r)) i.left;
+      spares = counts_again _ _ c.args.spares.now l.spares c.args.giver.now l.giver c.next_round.new.giver
+          (omega (arith, before_few (received c.next_round.new.from), ap spares_of same)) r.gave i.spares;
       room = omega (arith, i.room);
       same = i.bench;
     }
@@ -189,6 +227,7 @@ returns-in-Some-handle-clause-worked g c =
       each_named = came_named g at;
       lends = lent_on g at;
       none_left = left_on g at;
+      spares = spares_left g at;
       room = room_kept l.bench.room (home c.next_round.new.list) (home c.handle.new.home) c.handle.new.bench.room i.room b.room (ap (λ (b : BenchState). b.blocks) b.same);
       same = bench_then first l.bench c.handle.new.bench i.bench b.same;
     }
@@ -210,6 +249,8 @@ returns-in_default-make_ready-clause-worked g c =
       each_named = came_named g at;
       lends = lent_on g at;
       none_left = left_on g at;
+      spares = counts_again _ _ c.args.spares.now c.count.new.self c.args.giver.now c.handle.new.giver c.handle.new.giver (before_few (received c.next_round.new.from))
+          (lends_same c.handle.new.giver (lent_again c.next_round.new.giver c.handle.new.giver c.handle.ensures.gave)) (spares_more g (goal.at.returns-in_default-make_ready-clause-worked g c).After-count);
       room = room_more l.bench.room (home c.next_round.new.list) (home c.handle.new.home) i.room b.room (ap (λ (b : BenchState). b.blocks) b.same) m.later (ap (λ (b : BenchState). b.blocks) m.same);
       same = bench_then first c.handle.new.bench c.make_ready.new.bench (bench_then first l.bench c.handle.new.bench i.bench b.same) m.same;
     }
@@ -230,6 +271,8 @@ loop-preserved g c =
       each = r.sum ∙ came g p;
       named = λ x. r.named x ∙ came_named g p x;
       lends = lends_then c.args.giver.now c.handle.new.giver c.give_back.new.giver (lent_on g p) r.gave;
+      spares = counts_again _ _ c.args.spares.now c.count.new.self c.args.giver.now c.handle.new.giver c.give_back.new.giver (le_refl (spares_of (received c.next_round.new.from))) r.gave
+          (spares_more g (goal.at.loop-preserved g c).After-count);
       left = left_then 0 c.give_back.new.list c.args.giver.now c.handle.new.giver c.give_back.new.giver (lent_on g p) c.give_back.ensures.left;
       went = went_on g (goal.at.loop-preserved g c).In-None-handle;
       few = few_on g p;

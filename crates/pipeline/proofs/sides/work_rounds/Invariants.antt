@@ -4,7 +4,7 @@ use Rattle.block_pool.specs.PoolState.{home, weighed}
 use Rattle.rounds.specs.Benches.{options_at, HasRoom, IsSameBench, Lends}
 use Rattle.rtrb.specs.Ring.{received, SameConsumer}
 use Rattle.rounds.specs.Handled.{Went}
-use Rattle.pipeline.specs.Parcels.{blocks_of, packets_of, rounds_of, weights_sent, IsLeft}
+use Rattle.pipeline.specs.Parcels.{blocks_of, packets_of, rounds_of, spares_of, weights_sent, CountsSpares, IsLeft}
 use Rattle.pipeline.proofs.sides.work_rounds.Given as goal
 
 abbrev pub invariant-loop : goal.invariant-loop
@@ -16,6 +16,7 @@ invariant-loop g l = record {
   named : (h : ℕ → ℕ) → weighed h l.list.blocks + weights_given l.giver h ≡ weights_sent h (received l.from) + weights_given l.initial.giver h;
   lends : Lends l.initial.giver l.giver;
   left : IsLeft 0 l.list l.initial.giver l.giver;
+  spares : CountsSpares (spares_of (received l.from)) l.initial.spares l.spares l.initial.giver l.giver;
   went : Went (g.H.RoundHandler.did l.handler (options_at l.initial.bench)) 0 l.initial.into l.into (rounds_of (received l.from));
   few : packets_of (rounds_of (received l.from)) ≤ 2 ^ 32 + 4096;
   ready : g.H.RoundHandler.ready (options_at l.initial.bench) l.initial.bench.keep (packets_of (rounds_of (received l.from))) l.into;

@@ -2,7 +2,7 @@ use Rattle.std.proofs.Common.{◌∙◌, ◌+◌, [], ◌∷◌, ◌++◌, List,
 use Rattle.rounds.specs.declared.round.RoundRead.{RoundRead}
 use Rattle.rounds.specs.Merging.{options_of}
 use Rattle.rounds.specs.Reads.{reader_at, Reads, is_full}
-use Rattle.rounds.proofs.Going.{few_none, numbered, ready_as, rests_then, stepped_as, went_more, went_ends}
+use Rattle.rounds.proofs.Going.{few_none, gave_none, numbered, ready_as, rests_then, stepped_as, went_more, went_ends}
 use Rattle.rounds.proofs.Rows.{all_go_last, reads_last}
 use Rattle.rounds.proofs.turns.handle_from.Goals as goal
 
@@ -15,7 +15,7 @@ rounds-init g c = record {
   number = omega arith;
   counted = c.requires.counted;
   start = c.requires.start;
-  rests = record { home = c.requires.home; same = (refl, refl, refl); least = omega arith; pauses = few_none _ _ _ _ (omega arith) refl; later = omega arith };
+  rests = record { home = c.requires.home; same = (refl, refl, refl); least = omega arith; pauses = few_none _ _ _ _ (omega arith) refl; gives = gave_none _ _ refl; later = omega arith };
   named = λ h. refl;
   link = c.requires.link;
   ready = c.requires.ready;

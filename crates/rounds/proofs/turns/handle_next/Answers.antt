@@ -2,7 +2,7 @@ use Rattle.std.proofs.Common.{◌∙◌, ◌+◌, arith, subst, sym, ap, length}
 use Rattle.offload_model.specs.Written.{Options}
 use Rattle.rounds.specs.Merging.{options_of}
 use Rattle.rounds.specs.RoundsState.{RoundsState}
-use Rattle.rounds.proofs.Going.{few_none, ready_as}
+use Rattle.rounds.proofs.Going.{few_none, gave_none, ready_as}
 use Rattle.rounds.proofs.turns.handle_next.Goals as goal
 
 pub handle-requires-clause-read : goal.handle-requires-clause-read
@@ -67,6 +67,7 @@ returns-clause-rests g c =
       same = (ap (λ (x : RoundsState). x.blocks) h.home ∙ r.same.0, ap options_of h.home ∙ r.same.1, ap (λ (x : RoundsState). x.keep) h.home ∙ r.same.2);
       least = omega (arith, r.least, ap (λ (x : RoundsState). x.taken) h.home);
       pauses = few_none _ _ _ _ (omega (arith, r.counts.0, ap (λ (x : RoundsState). x.empties) h.home)) (ap (λ (x : RoundsState). x.pauses) h.home ∙ r.counts.1);
+      gives = gave_none c.args.rounds.now.spares c.handle.new.self.spares (ap (λ (x : RoundsState). x.spares) h.home ∙ r.counts.2);
       later = r.later;
     }
 

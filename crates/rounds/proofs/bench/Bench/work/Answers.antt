@@ -1,4 +1,4 @@
-use Rattle.std.proofs.Common.{◌≡◌, arith, map, refl, rules, subst, sym, ◌+◌, ◌-◌, ◌∙◌}
+use Rattle.std.proofs.Common.{◌≡◌, ap, arith, length, map, refl, rules, subst, sym, List, ◌+◌, ◌-◌, ◌∙◌}
 use Rattle.std.proofs.lemmas.Grind.{common_steps}
 use Rattle.std.specs.Prelude.{IfOk}
 use Rattle.block_pool.specs.Giving.{given_by, weights_given}
@@ -7,11 +7,12 @@ use Rattle.gro.specs.Slots.{packet_of}
 use Rattle.rounds.specs.declared.lane_work.Kept.{Kept}
 use Rattle.rounds.specs.Kept.{IsKept}
 use Rattle.rounds.specs.Lanes.{IsKeptWorkOf}
-use Rattle.rounds.specs.Benches.{options_at, LeavesNoSpare}
+use Rattle.raw_block.specs.Views.{SoleState}
+use Rattle.rounds.specs.Benches.{options_at, GivesSpares, LeavesNoSpare}
 use Rattle.rounds.specs.RoundsState.{BenchState}
 use Rattle.rounds.specs.Weights.{weights_of, weights_left, weights_worked}
 use Rattle.rounds.proofs.Keeping.{blocks_left, kept_work, out_worked, rest_left, settles, weights_back, weights_then}
-use Rattle.rounds.proofs.Lending.{leaves_no_spare, of_worked, on_ok, went}
+use Rattle.rounds.proofs.Lending.{gives_spares, leaves_no_spare, of_worked, on_ok, went}
 use Rattle.rounds.proofs.bench.Bench.work.Goals as goal
 
 pub work_packets-done-requires-clause-shared : goal.work_packets-done-requires-clause-shared
@@ -102,3 +103,16 @@ returns-clause-none_left g c = λ gives.
     of_worked w.result c.settle.result left.blocks (LeavesNoSpare c.args.giver.now c.swap_list-2.new.giver) c.settle.ensures.spares
     (on_ok w.result (λ none. leaves_no_spare c.args.giver.now c.swap_list.new.giver w.new.giver c.swap_list-2.new.giver k.spares c.swap_list.new.list left c.swap_list.ensures.swapped none
     c.swap_list-2.ensures.swapped) (w.ensures.none_left gives))
+
+pub returns-clause-gives_spares : goal.returns-clause-gives_spares
+returns-clause-gives_spares g c = λ gives.
+    let k = c.in_ok-kept.kept in
+    let w = c.work_packets-done in
+    let left = c.swap_list-2.new.list in
+    let from = c.args.giver.now in
+    let to = c.swap_list-2.new.giver in
+    let n = length c.args.round.spares in
+    let gone = went from c.swap_list.new.giver w.new.giver to k.spares c.swap_list.new.list left c.requires.lent c.swap_list.ensures.swapped w.ensures.gave c.swap_list-2.ensures.swapped in
+    of_worked w.result c.settle.result left.blocks (λ (s : List SoleState). GivesSpares n from to) c.settle.ensures.spares
+    (on_ok w.result (λ none. gives_spares n from to k.spares left gone.count (ap (λ (z : List SoleState). length z) c.in_ok-kept.ensures.spares)
+    (leaves_no_spare from c.swap_list.new.giver w.new.giver to k.spares c.swap_list.new.list left c.swap_list.ensures.swapped none c.swap_list-2.ensures.swapped)) (w.ensures.none_left gives))
