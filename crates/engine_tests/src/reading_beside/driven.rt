@@ -62,7 +62,11 @@ fn merged<S: Source + Send + Drop, K: Sink, G: Gate + Sync>(
 }
 
 // What became of the spares of four records that are merged by two sides.
-fn spares_of(rt: &(impl Threads + Wait + Abort + Sync), alloc: Global, how: How) -> (u64, u64, u64) {
+fn spares_of(
+    rt: &(impl Threads + Wait + Abort + Sync),
+    alloc: Global,
+    how: How,
+) -> (u64, u64, u64) {
     let mut feed = Feed {
         inner: source_of(rt, alloc, &capture(rt, alloc, 1), &[]),
     };
@@ -90,10 +94,7 @@ fn spares_of(rt: &(impl Threads + Wait + Abort + Sync), alloc: Global, how: How)
 fn spares_go_back_while_their_round_is_worked(rt: HostRuntime) {
     let alloc = rt.alloc();
     let (one, crewed) = if reads_beside(&rt) { (8, 6) } else { (0, 0) };
-    let seen = (
-        spares_of(&rt, alloc, FEWEST),
-        spares_of(&rt, alloc, CREWED),
-    );
+    let seen = (spares_of(&rt, alloc, FEWEST), spares_of(&rt, alloc, CREWED));
     assert!(rt; seen == ((one, one, 0), (crewed, crewed, 0)));
 }
 

@@ -92,6 +92,7 @@ fn crowded<R: Wait + Abort>(rt: &R, alloc: Global) -> (Crowded, Vec<u8>) {
     let Rounds {
         mut intake,
         mut bench,
+        spares: _,
     } = rounds_of_one(rt, alloc, 6);
     let (lists, mut pass, giver) = one_place(alloc).expect(rt, "no memory");
     let mut giver = Some(giver);

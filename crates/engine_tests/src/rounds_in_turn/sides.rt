@@ -210,6 +210,7 @@ fn in_turn<R: Wait + Abort>(rt: &R, alloc: Global) -> ([Step; 3], Vec<u8>, [u32;
     let Rounds {
         mut intake,
         mut bench,
+        spares: _,
     } = rounds_of_one(rt, alloc, 3);
     let round = full(rt, intake.read_beside(rt, &mut reader, &mut AllHome::new()));
     let (first, one) = put(rt, alloc, &mut bench, round, &file, &mut sink, 0);
@@ -257,6 +258,7 @@ fn lacking<R: Wait + Abort>(rt: &R, alloc: Global) -> (RoundEnd, u32, u32) {
     let Rounds {
         mut intake,
         mut bench,
+        spares: _,
     } = rounds_of_one(rt, alloc, 3);
     let first = full(rt, intake.read_beside(rt, &mut reader, &mut AllHome::new()));
     let RoundRead { round, end } = intake.read_beside(rt, &mut reader, &mut NoneComes::new());
