@@ -1,5 +1,5 @@
 -- What calls do to the bytes that a source has left and a sink holds, where these tell.
-use Rattle.std.specs.Prelude.{◌≡◌, ℕ, ◌<◌, List, ◌++◌, length, take, slice_index, Bool, IfSome, Option, Result}
+use Rattle.std.specs.Prelude.{◌≡◌, ℕ, ◌<◌, List, ◌++◌, length, take, slice_index, Bool, IfSome, Option, None, Some, Result, ⊤}
 use Rattle.std.specs.Prelude.{MatchResult}
 use Rattle.std.specs.Io.KnownBytes.{Appends, Consumes, IsAtEnd}
 
@@ -10,6 +10,12 @@ AppendsPrefix old new bytes = (n : ℕ) × Appends old new (take n bytes)
 -- a sink that tells says whether all of it is flushed
 abbrev pub SaysFlushed : Option (List ℕ) → Bool → Bool → Type 0
 SaysFlushed held is_flushed answer = IfSome held (λ _. is_flushed ≡ answer)
+
+-- of the bytes that one tells the other one tells the first
+abbrev pub IsFrontOf : Option (List ℕ) → Option (List ℕ) → Type 0
+IsFrontOf None front = ⊤
+IsFrontOf (Some all) None = ⊥
+IsFrontOf (Some all) (Some front) = (rest : List ℕ) × (front ++ rest ≡ all)
 
 -- of `all` the bytes `rest` are still to be appended
 abbrev pub Owes : Option (List ℕ) → Option (List ℕ) → List ℕ → List ℕ → Type 0

@@ -1,10 +1,10 @@
 //! The edge to the system: std's readers and writers with a count of their errors.
-ghost use Rattle.std.specs.Prelude.{◌≡◌, ◌<◌, ◌≤◌, None, IfNone, IfSome, false, length};
-ghost use Rattle.std.specs.Io.{ReadsAtMost};
-ghost use Rattle.std.specs.Io.KnownBytes.{Appends, Keeps, ReadConsumes};
-ghost use Rattle.std.specs.Io.Buffered.{reader_remaining, writer_contents};
+ghost use Rattle.std.specs.Prelude.{◌≡◌, ◌<◌, ◌≤◌, [], None, IfNone, IfOk, IfSome, false, true, length};
+ghost use Rattle.std.specs.Io.{ReadsAtMost, WritesAtMost};
+ghost use Rattle.std.specs.Io.KnownBytes.{Appends, Keeps, ReadConsumes, WriteAppends};
+ghost use Rattle.std.specs.Io.Buffered.{reader_remaining, writer_buffer, writer_contents, writer_inner};
 ghost use Rattle.std.specs.Prelude.{MatchOption, take};
-ghost use Rattle.off_io.specs.Content.{SaysFlushed};
+ghost use Rattle.off_io.specs.Content.{IsFrontOf};
 ghost use Rattle.off_io.specs.Faults.{HasCause, Rose};
 
 use crate::{Failed, Sink, Source};
@@ -144,6 +144,13 @@ impl<W: Write> StdSink<W> {
             is_flushed: false,
         }
     }
+
+    /// Std's writer.
+    pub fn into_writer(self) -> W
+        ensures same { result ≡ self.inner }
+    {
+        self.inner
+    }
 }
 
 impl<W: Write> Sink for StdSink<W> {
@@ -185,8 +192,11 @@ impl<W: Write> Sink for StdSink<W> {
 /// as of [`StdSink`].
 #[derive(Drop)]
 pub struct BufferedSink<W: Write + Drop> {
-    /// Std's buffer, as a sink that counts its faults and the writer's.
-    sink: StdSink<BufWriter<W>>,
+    inner: BufWriter<W>,
+    /// How many writes and flushes failed. It stays at `2^64 - 1`.
+    faults: u64,
+    /// Whether a flush was the last call, and went well: then the buffer is empty.
+    is_flushed: bool,
 }
 
 impl<W: Write + Drop> Model for BufferedSink<W> {
@@ -196,7 +206,12 @@ impl<W: Write + Drop> Model for BufferedSink<W> {
 
     ghost Value = { CountingSink (BufWriter W Global) };
 
-    ghost view = { λ s. s.sink };
+    ghost view = { λ s. record { inner = s.inner; faults = s.faults; is_flushed = s.is_flushed } };
+
+    ghost use Rattle.std.specs.Prelude.{◌≡◌, [], true};
+    ghost use Rattle.std.specs.Io.Buffered.{writer_buffer};
+
+    ghost invariant = { λ s. s.is_flushed ≡ true → writer_buffer s.inner ≡ [] };
 }
 
 impl<W: Write + Drop> BufferedSink<W> {
@@ -205,7 +220,48 @@ impl<W: Write + Drop> BufferedSink<W> {
         ensures made { result ≡ record { inner = inner; faults = 0; is_flushed = false } }
     {
         BufferedSink {
-            sink: StdSink::new(inner),
+            inner,
+            faults: 0,
+            is_flushed: false,
+        }
+    }
+
+    /// Std's writer. Where the last call was a flush that went well it has all that was written, and is asked nothing;
+    /// else what is still in the buffer is written to it, and of what it doesn't take nothing is told.
+    pub fn into_writer(self) -> W
+        ensures flushed { self.is_flushed ≡ true → result ≡ writer_inner self.inner }
+        ensures all { self.is_flushed ≡ true → Keeps (writer_contents W.contents self.inner) (W.contents result) }
+        ensures unwritten { writer_buffer self.inner ≡ [] → result ≡ writer_inner self.inner }
+        ensures front { IsFrontOf (writer_contents W.contents self.inner) (W.contents result) }
+    {
+        let output = self.inner;
+        if output.buffer().is_empty() {
+            return output.into_parts().0;
+        }
+        match output.into_inner() {
+            Ok(writer) => writer,
+            Err(fault) => fault.into_inner().into_parts().0,
+        }
+    }
+
+    // Writes, and counts it where that fails.
+    #[inline(always)]
+    fn write_counted(&mut self, from: &[u8]) -> Result<usize, Failed>
+        ensures bound { WritesAtMost result from.now }
+        ensures progress { IfOk result (λ n. 0 < length from.now → 0 < n) }
+        ensures bytes { WriteAppends (writer_contents W.contents self.old.inner)
+            (writer_contents W.contents self.new.inner) result from.now }
+        ensures unflushed { self.new.is_flushed ≡ false }
+        ensures cause { HasCause self.old.faults self.new.faults result }
+    {
+        self.is_flushed = false;
+        let taken = self.inner.write(from);
+        match taken {
+            Ok(count) if count > 0 || from.is_empty() => Ok(count),
+            _ => {
+                self.faults = self.faults.saturating_add(1);
+                Err(Failed)
+            }
         }
     }
 
@@ -219,12 +275,11 @@ impl<W: Write + Drop> BufferedSink<W> {
             (Keeps (writer_contents W.contents self.old.inner) (writer_contents W.contents self.new.inner))
             (λ n. Appends (writer_contents W.contents self.old.inner) (writer_contents W.contents self.new.inner)
             (take n from.now)) }
-        ensures unflushed { IfSome result (λ n. 0 < n → SaysFlushed (writer_contents W.contents self.new.inner)
-            self.new.is_flushed false) }
+        ensures unflushed { self.new.is_flushed ≡ false }
         ensures later { self.old.faults ≤ self.new.faults }
         ensures failed { IfNone result (Rose self.old.faults self.new.faults) }
     {
-        match self.sink.write(from) {
+        match self.write_counted(from) {
             Ok(count) => Some(count),
             Err(Failed) => None,
         }
@@ -240,10 +295,14 @@ impl<W: Write + Drop> Sink for BufferedSink<W> {
 
     #[inline(always)]
     fn write(&mut self, from: &[u8]) -> Result<usize, Failed> {
-        let inner = &self.sink.inner;
         // std's own test, by which the compiler knows what std does.
-        if from.len() < inner.capacity().wrapping_sub(inner.buffer().len()) {
-            return self.sink.write(from);
+        if from.len()
+            < self
+                .inner
+                .capacity()
+                .wrapping_sub(self.inner.buffer().len())
+        {
+            return self.write_counted(from);
         }
         match self.write_on(from) {
             Some(count) => Ok(count),
@@ -252,6 +311,16 @@ impl<W: Write + Drop> Sink for BufferedSink<W> {
     }
 
     fn flush(&mut self) -> Result<(), Failed> {
-        self.sink.flush()
+        match self.inner.flush() {
+            Ok(()) => {
+                self.is_flushed = true;
+                Ok(())
+            }
+            Err(_) => {
+                self.is_flushed = false;
+                self.faults = self.faults.saturating_add(1);
+                Err(Failed)
+            }
+        }
     }
 }
