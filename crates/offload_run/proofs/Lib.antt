@@ -1,3 +1,4 @@
 mod Makings
 mod Engines
 mod Unread
+mod Streamed

@@ -25,6 +25,9 @@
 //! `quiet`). So do the two commands one after the other ([`every_flow_comes_back`]), and each line of `check` tells as
 //! many records that came back as there are ([`every_record_returns`]).
 //!
+//! [`run_streams`] is `run` over a reader and writers of std, as `main` calls it, and says of std's own writer what has
+//! been given to it (`streamed`): all that `run` writes to its sink where that is flushed, and else the first bytes.
+//!
 //! ```
 //! let mut engine = None;
 //! let status = run(
@@ -57,6 +60,7 @@
 mod command;
 mod engine;
 mod make;
+mod streams;
 
 pub use command::run;
 pub use command_answers::{
@@ -69,3 +73,4 @@ pub use offload_words::{
 };
 pub use rounds::Rounds;
 pub use segmenting::SegmentRun;
+pub use streams::{Streams, run_streams};

@@ -3,7 +3,8 @@
 //! Each module runs command lines: `rows` and `datagrams` hold the rows of what merging and segmenting come to, over
 //! the frames of `row_frames`; `queues`, `options` and `budgets` what the options do; `kinds` captures of each kind;
 //! `failing` sources and sinks that fail; `hostile` what is refused; `checks` what `check` tells; `beside` rounds that
-//! are read beside others; `examples` the calls as their pages show them.
+//! are read beside others; `streams` the program over std's readers and writers; `examples` the calls as their pages
+//! show them.
 //!
 //! A crate of their own, beside that of the engine's tests, so that the two are proved side by side.
 #![tactic(auto)]
@@ -36,3 +37,5 @@ mod queues;
 mod row_frames;
 #[cfg(test)]
 mod rows;
+#[cfg(test)]
+mod streams;
