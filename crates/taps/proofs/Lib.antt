@@ -2,5 +2,5 @@
 mod Windows
 -- what the clones hold, given back one after another
 pub mod Returning
--- the windows in memory, one more of them, and those of the clones so far
-mod Spans
+-- the windows in memory, one more of them, and those of the packets so far
+pub mod Spans

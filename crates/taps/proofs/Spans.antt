@@ -8,7 +8,6 @@ use Rattle.std.proofs.lemmas.Bool.Decides.{leb_tells}
 use Rattle.std.proofs.lemmas.List.{map-append, append-nil, drop-append-le, drop-take, drop_all, take-append-le, take-take, take_all, length-take-le}
 use Rattle.pcap_io.specs.Capture.{Packet}
 use Rattle.offload_model.specs.Written.{window_of}
-use Rattle.taps.specs.declared.clones.TapClone.{TapClone}
 use Rattle.taps.specs.declared.texts.Span.{Span}
 use Rattle.taps.specs.Texts.{text_by, text_of, texts_of, text_at, IsWithin}
 
@@ -60,46 +59,18 @@ texts_more xs ys zs ss s e h f t =
     ∙ ap (λ z. z ++ map (text_at zs) (s ∷ [])) (texts_stay xs ys zs ss e h)
     ∙ ap (λ z. map (text_at xs) ss ++ record { number = s.number; sec = s.sec; frac = s.frac; original = s.original; frame = z } ∷ []) r
 
--- ---- the clones so far
+-- ---- the packets so far
 
-one_more : (v : TapClone → Packet) (snap t : ℕ) (cs : List TapClone) (i : ℕ) (c : TapClone) → i < length cs → c ≡ get_or cs i c
-    → texts_of snap t (map v (take (i + 1) cs)) ≡ texts_of snap t (map v (take i cs)) ++ text_of snap t (v c)
-one_more v snap t cs i c l e =
+pub one_more : {A : Type 0} (v : A → Packet) (snap t : ℕ) (xs : List A) (i : ℕ) (x : A) → i < length xs → x ≡ get_or xs i x
+    → texts_of snap t (map v (take (i + 1) xs)) ≡ texts_of snap t (map v (take i xs)) ++ text_of snap t (v x)
+one_more v snap t xs i x l e =
     let n : i + 1 ≡ suc i = omega arith in
-    ap (λ z. texts_of snap t (map v (take z cs))) n
-    ∙ ap (λ z. texts_of snap t (map v z)) (take-suc cs i c l)
-    ∙ ap (λ z. texts_of snap t (map v (take i cs ++ z ∷ []))) (sym e)
-    ∙ ap (texts_of snap t) (map-append v (take i cs) (c ∷ []))
-    ∙ flat_map-append (text_of snap t) (map v (take i cs)) (v c ∷ [])
-    ∙ ap (λ z. texts_of snap t (map v (take i cs)) ++ z) (append-nil (text_of snap t (v c)))
-
-text_some : (p : Packet) (w : List ℕ) → 0 < length w → text_by p w ≡ record p { frame = w } ∷ []
-text_some p [] h = absurd (omega (arith, h))
-text_some p (b ∷ bytes) h = refl
-
-text_none : (p : Packet) (w : List ℕ) → length w ≡ 0 → text_by p w ≡ []
-text_none p [] h = refl
-text_none p (b ∷ bytes) h = absurd (omega (arith, h))
-
--- the window of the i-th clone is taken
-pub taken_one : (v : TapClone → Packet) (snap t : ℕ) (cs : List TapClone) (i : ℕ) (c : TapClone) (ts us : List Packet) (w : List ℕ) → i < length cs → c ≡ get_or cs i c
-    → w ≡ window_of snap t (v c).frame → 0 < length w
-    → ts ≡ texts_of snap t (map v (take i cs)) → us ≡ ts ++ record (v c) { frame = w } ∷ []
-    → us ≡ texts_of snap t (map v (take (i + 1) cs))
-taken_one v snap t cs i c ts us w l e f n g h =
-    h ∙ ap (λ z. z ++ record (v c) { frame = w } ∷ []) g
-    ∙ ap (λ z. texts_of snap t (map v (take i cs)) ++ z) (sym (text_some (v c) w n) ∙ ap (text_by (v c)) f)
-    ∙ sym (one_more v snap t cs i c l e)
-
--- or it is empty
-pub left_one : (v : TapClone → Packet) (snap t : ℕ) (cs : List TapClone) (i : ℕ) (c : TapClone) (ts : List Packet) (w : List ℕ) → i < length cs → c ≡ get_or cs i c
-    → w ≡ window_of snap t (v c).frame → length w ≡ 0
-    → ts ≡ texts_of snap t (map v (take i cs))
-    → ts ≡ texts_of snap t (map v (take (i + 1) cs))
-left_one v snap t cs i c ts w l e f n g =
-    g ∙ sym (append-nil (texts_of snap t (map v (take i cs))))
-    ∙ ap (λ z. texts_of snap t (map v (take i cs)) ++ z) (sym (text_none (v c) w n) ∙ ap (text_by (v c)) f)
-    ∙ sym (one_more v snap t cs i c l e)
+    ap (λ z. texts_of snap t (map v (take z xs))) n
+    ∙ ap (λ z. texts_of snap t (map v z)) (take-suc xs i x l)
+    ∙ ap (λ z. texts_of snap t (map v (take i xs ++ z ∷ []))) (sym e)
+    ∙ ap (texts_of snap t) (map-append v (take i xs) (x ∷ []))
+    ∙ flat_map-append (text_of snap t) (map v (take i xs)) (v x ∷ [])
+    ∙ ap (λ z. texts_of snap t (map v (take i xs)) ++ z) (append-nil (text_of snap t (v x)))
 
 two_takes : (k p q : ℕ) (ys : List ℕ) → k ≡ min p q → take k ys ≡ take p (take q ys)
 two_takes k p q ys e =

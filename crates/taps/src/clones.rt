@@ -1,15 +1,14 @@
 //! The packets that a tap reads, as clones of the workers' buffers.
-ghost use Rattle.std.specs.Prelude.{◌≡◌, ◌+◌, ◌≤◌, [], length, option_map, slice_range, take};
+ghost use Rattle.std.specs.Prelude.{◌≡◌, ◌+◌, ◌≤◌, [], length};
 ghost use Rattle.frags.specs.Account.{Keeps, KeepsBlocks, both, of_outcomes};
 ghost use Rattle.frags.specs.Growth.{Grows};
-ghost use Rattle.offload_model.specs.Written.{shown_bytes, window_of};
-ghost use Rattle.skb.specs.SkbState.{buffer_bytes, buffer_size, of_buffer};
-ghost use Rattle.taps.specs.Clones.{blocks_of, of_clones};
+ghost use Rattle.skb.specs.SkbState.{of_buffer};
+ghost use Rattle.taps.specs.Clones.{blocks_of, of_clones, packet_of};
+ghost use Rattle.taps.specs.Shown.{lent_packet};
 
-use crate::frame::value_on;
+use crate::packet::TapPacket;
 use frags::Outcomes;
 use skb::Skb;
-use tap_filter::Program;
 
 /// A clone of a packet's buffer, and what its record said. It must be spent: its buffer is given back by
 /// [`TapTask::run`](crate::TapTask::run), or by [`TapClone::release`].
@@ -27,31 +26,18 @@ pub struct TapClone {
 }
 
 impl TapClone {
-    /// How many of the packet's bytes taps are shown: the filter's value, and at most all.
-    pub(crate) fn shown_len(&self, filter: Option<&Program>) -> usize
-        ensures within { result ≤ length (buffer_bytes self.now.skb) }
-        ensures size { result ≤ buffer_size self.now.skb }
-        ensures shown { shown_bytes (option_map (λ p. p.now) filter.entry) (buffer_bytes self.now.skb)
-            ≡ take result (buffer_bytes self.now.skb) }
+    /// The packet, as a tap reads it.
+    pub(crate) fn lend(&self) -> TapPacket<'_>
+        ensures same { lent_packet result ≡ packet_of self.now }
+        ensures skb { result.skb.now ≡ self.now.skb }
     {
-        let len = self.skb.len();
-        match filter {
-            None => len,
-            Some(program) => (value_on(program, &self.skb) as usize).min(len),
+        TapPacket {
+            skb: &self.skb,
+            sec: self.sec,
+            frac: self.frac,
+            original: self.original,
+            number: self.number,
         }
-    }
-
-    /// Where window `tap` lies in the packet's bytes: `from..to`, empty where what is shown ends before it.
-    pub(crate) fn window(&self, tap: u32, snap: u32, filter: Option<&Program>) -> (usize, usize)
-        ensures range { (result.0 ≤ result.1) × (result.1 ≤ buffer_size self.now.skb) }
-        ensures bytes { result.1 ≤ length (buffer_bytes self.now.skb) }
-        ensures window { slice_range (buffer_bytes self.now.skb) result.0 result.1
-            ≡ window_of snap tap (shown_bytes (option_map (λ p. p.now) filter.entry) (buffer_bytes self.now.skb)) }
-    {
-        let shown = self.shown_len(filter);
-        let from = (tap as usize * snap as usize).min(shown);
-        let to = (from + snap as usize).min(shown);
-        (from, to)
     }
 
     /// Gives its buffer back.

@@ -7,12 +7,14 @@
 //!
 //! A [`TapTask`] holds a clone of each packet, so its bytes stay while others push, pull, merge or release theirs.
 //! [`TapTask::run`] copies the windows out, into one vector for all of them, and gives every clone back;
-//! [`read_clones`] does the same with lists that are kept from round to round.
+//! [`read_clones`] does the same with lists that are kept from round to round. Where packets lie still while a tap reads
+//! there need be no clone: [`TapTexts::read`] copies a window out of a packet that is lent, a [`TapPacket`].
 //!
 //! Proved, by the names of the clauses of `run`:
 //!
 //! - `texts`: the windows are those of the packets, in the order of the clones, the empty ones left out.
 //! - `windows`: the records made of them are the tap's windows in what merging writes (`windows_of`).
+//! - `read` of `TapTexts::read`: the same of one packet that is lent, behind those before it.
 //! - `kept`, `grows`, `places`: nothing is lost (see `frags`), also where memory runs out.
 //!
 //! Only tested: that the gate is passed, once before and once after, and that memory suffices where there is some.
@@ -38,10 +40,12 @@ ghost use Rattle.taps.specs.Texts.{TextsAreWindows};
 
 mod clones;
 mod frame;
+mod packet;
 mod task;
 mod texts;
 
 pub use clones::TapClone;
+pub use packet::TapPacket;
 pub use task::{TapResult, TapTask, read_clones};
 pub use texts::{TapText, TapTexts};
 

@@ -127,7 +127,7 @@ fn has_room(places: usize, clones: &[TapClone]) -> bool
 fn bytes_of_windows(tap: u32, snap: u32, clones: &[TapClone]) -> usize {
     let mut bytes = 0usize;
     for clone in clones {
-        let (from, to) = clone.window(tap, snap, None);
+        let (from, to) = clone.lend().window(tap, snap, None);
         bytes = bytes.saturating_add(to - from);
     }
     bytes
@@ -148,10 +148,7 @@ fn read_texts(
     let mut texts = memory;
     texts.start(clones.len(), bytes)?;
     for clone in clones {
-        let (from, to) = clone.window(tap, snap, filter);
-        if from < to {
-            texts.push(clone, from, to)?;
-        }
+        texts.read(tap, snap, filter, &clone.lend())?;
     }
     Ok(texts)
 }

@@ -1,17 +1,18 @@
 //! The windows that a tap read.
 ghost use Rattle.std.specs.Prelude.{◌≡◌, ◌==◌, ◌<◌, ◌≤◌, [], ◌∷◌, ◌++◌, length, OnOk, OnErr, slice_index_or};
-ghost use Rattle.std.specs.Prelude.{slice_range};
+ghost use Rattle.std.specs.Prelude.{option_map, slice_range};
 ghost use Rattle.pcap_io.specs.Capture.{Packet};
-ghost use Rattle.offload_model.specs.Written.{window_head};
+ghost use Rattle.offload_model.specs.Written.{shown_of, window_head};
 ghost use Rattle.skb.specs.SkbState.{buffer_bytes, buffer_size};
-ghost use Rattle.taps.specs.Clones.{packet_of};
-ghost use Rattle.taps.specs.Shown.{shown_text};
+ghost use Rattle.taps.specs.Shown.{lent_packet, shown_text};
+ghost use Rattle.taps.specs.Texts.{text_of};
 
-use crate::TapClone;
+use crate::packet::TapPacket;
 use pcap_io::OffHead2;
 use skb::Skb;
 use std::alloc::{AllocError, Global};
 use std::marker::Model;
+use tap_filter::Program;
 
 /// One packet's window: `from..to` of the bytes of all.
 #[derive(Clone, Copy, Debug)]
@@ -88,37 +89,59 @@ impl TapTexts {
         }
     }
 
-    /// No windows any more, and room for `windows` of them with `bytes` bytes in all.
-    pub(crate) fn start(&mut self, windows: usize, bytes: usize) -> Result<(), AllocError>
+    /// No windows any more. Their memory stays.
+    pub fn clear(&mut self)
         ensures empty { self.new ≡ [] }
     {
         self.spans.clear();
         self.bytes.clear();
+    }
+
+    /// No windows any more, and room for `windows` of them with `bytes` bytes in all.
+    pub(crate) fn start(&mut self, windows: usize, bytes: usize) -> Result<(), AllocError>
+        ensures empty { self.new ≡ [] }
+    {
+        self.clear();
         self.spans.reserve(windows)?;
         self.bytes.reserve(bytes)
     }
 
-    /// Copies the bytes `from..to` of a clone out, as the window behind the others.
-    pub(crate) fn push(
-        &mut self,
-        clone: &TapClone,
-        from: usize,
-        to: usize,
-    ) -> Result<(), AllocError>
-        requires range { (from < to) × (to ≤ buffer_size clone.now.skb) }
+    // Copies the bytes `from..to` of a packet out, as the window behind the others.
+    fn push(&mut self, packet: &TapPacket<'_>, from: usize, to: usize) -> Result<(), AllocError>
+        requires range { (from < to) × (to ≤ buffer_size packet.now.skb.now) }
         ensures pushed { OnOk result (self.new ≡ self.old
-            ++ record (packet_of clone.now) { frame = slice_range (buffer_bytes clone.now.skb) from to } ∷ []) }
+            ++ record (lent_packet packet.now) { frame = slice_range (buffer_bytes packet.now.skb.now) from to }
+            ∷ []) }
     {
         let start = self.bytes.len();
-        append(&mut self.bytes, &clone.skb, from, to)?;
+        append(&mut self.bytes, packet.skb, from, to)?;
         self.spans.push(Span {
-            number: clone.number,
-            sec: clone.sec,
-            frac: clone.frac,
-            original: clone.original,
+            number: packet.number,
+            sec: packet.sec,
+            frac: packet.frac,
+            original: packet.original,
             from: start,
             to: self.bytes.len(),
         })?;
+        Ok(())
+    }
+
+    /// Reads window `tap` of one more packet, behind the others: the bytes of what is shown from `tap * snap` on, at
+    /// most `snap`. One that is empty is left out.
+    pub fn read(
+        &mut self,
+        tap: u32,
+        snap: u32,
+        filter: Option<&Program>,
+        packet: &TapPacket<'_>,
+    ) -> Result<(), AllocError>
+        ensures read { OnOk result (self.new ≡ self.old
+            ++ text_of snap tap (shown_of (option_map (λ p. p.now) filter.entry) (lent_packet packet.now))) }
+    {
+        let (from, to) = packet.window(tap, snap, filter);
+        if from < to {
+            return self.push(packet, from, to);
+        }
         Ok(())
     }
 
@@ -159,6 +182,10 @@ fn append(bytes: &mut Vec<u8>, skb: &Skb, from: usize, to: usize) -> Result<(), 
     ensures more { OnOk result (length bytes.old.items < length bytes.new.items) }
     ensures err { OnErr result (bytes.new.items ≡ bytes.old.items) }
 {
+    let head = skb.head();
+    if to <= head.len() {
+        return bytes.extend_from_slice(&head[from..to]);
+    }
     let _ = skb.len();
     let start = bytes.len();
     bytes.resize(start + (to - from), 0)?;

@@ -9,12 +9,12 @@ use Rattle.taps.proofs.texts.TapTexts.push.Goals as goal
 pub invariant_of-self-2 : goal.invariant_of-self-2
 invariant_of-self-2 c =
     let e = c.in_ok-append.ensures.ok in
-    let ys : List ℕ = slice_range (buffer_bytes c.args.clone.now.skb) c.args.from c.args.to in
+    let ys : List ℕ = slice_range (buffer_bytes c.args.packet.now.skb.now) c.args.from c.args.to in
     let s : Span = record {
-      number = c.args.clone.now.number;
-      sec = c.args.clone.now.sec;
-      frac = c.args.clone.now.frac;
-      original = c.args.clone.now.original;
+      number = c.args.packet.now.number;
+      sec = c.args.packet.now.sec;
+      frac = c.args.packet.now.frac;
+      original = c.args.packet.now.original;
       from = c.len-start.result;
       to = c.len.result;
     } in
@@ -26,12 +26,12 @@ invariant_of-self-2 c =
 
 pub returns : goal.returns
 returns c =
-    let ys : List ℕ = slice_range (buffer_bytes c.args.clone.now.skb) c.args.from c.args.to in
+    let ys : List ℕ = slice_range (buffer_bytes c.args.packet.now.skb.now) c.args.from c.args.to in
     let s : Span = record {
-      number = c.args.clone.now.number;
-      sec = c.args.clone.now.sec;
-      frac = c.args.clone.now.frac;
-      original = c.args.clone.now.original;
+      number = c.args.packet.now.number;
+      sec = c.args.packet.now.sec;
+      frac = c.args.packet.now.frac;
+      original = c.args.packet.now.original;
       from = c.len-start.result;
       to = c.len.result;
     } in
