@@ -165,23 +165,22 @@ pub fn serve<T: Drop, D: Drop, J: Job<T, D>, N: Naming, R: Wait>(
 {
     let mut tries = 0u32;
     for _ in rt.forever() {
-        match answer(rt, errands, runner, job) {
-            Some(reply) => {
-                hand(rt, replies, reply);
-                bells.asker.unpark();
-                tries = 0;
+        if !errands.is_empty(runner)
+            && let Some(reply) = answer(rt, errands, runner, job)
+        {
+            hand(rt, replies, reply);
+            bells.asker.unpark();
+            tries = 0;
+        } else {
+            if bells.is_closed() {
+                return;
             }
-            None => {
-                if bells.is_closed() {
-                    return;
-                }
-                if tries < TRIES {
-                    tries += 1;
-                    hint::spin_loop();
-                } else {
-                    bells.sleep(rt, index);
-                    tries = 0;
-                }
+            if tries < TRIES {
+                tries += 1;
+                hint::spin_loop();
+            } else {
+                bells.sleep(rt, index);
+                tries = 0;
             }
         }
     }
@@ -205,7 +204,9 @@ fn next_reply<T: Drop, D: Drop, J: Job<T, D>, N: Naming, R: Wait>(
         if let Some(reply) = replies.pop(rt) {
             return reply;
         }
-        if let Some(reply) = answer(rt, errands, runner, job) {
+        if !errands.is_empty(runner)
+            && let Some(reply) = answer(rt, errands, runner, job)
+        {
             return reply;
         }
         if tries < TRIES {

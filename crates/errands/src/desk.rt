@@ -153,6 +153,14 @@ impl<T: Drop> Errands<T> {
         asker.asked += 1;
     }
 
+    /// Whether no task waits. To ask costs less than a `take` that finds none, which has a task's place on its stack.
+    pub fn is_empty(&self, runner: &mut Runner<T>) -> bool
+        requires own { runner.old ≡ self.now }
+        ensures same { runner.new ≡ runner.old }
+    {
+        self.queue.is_empty_as::<Takes>(&mut runner.pass)
+    }
+
     /// The task that waits for longest, if any does, and a note of it.
     pub fn take<R: Wait>(&self, rt: &R, runner: &mut Runner<T>) -> Option<(T, Note<T>)>
         requires own { runner.old ≡ self.now }
