@@ -11,8 +11,9 @@ use crate::tasks::{LaneDone, LaneJob, LaneTask};
 use block_pool::Giver;
 use crossbeam_queue::ArrayQueue;
 use errands::{Asker, Bells, Crew, Errands, Job, Naming, Reply, Runner, Works as DoesTasks, serve};
-use lanes::{LanePlan, Lanes, Works, give_back, run_and_give};
-use off_io::Gate;
+use gro::Packets;
+use lanes::{LanePlan, Lanes, SOME_PACKETS, Works, give_back, run_and_give};
+use off_io::{Gate, Who};
 use std::alloc::{AllocError, Global};
 use std::collections::VecDeque;
 use std::marker::Model;
@@ -153,6 +154,15 @@ impl<G: Gate, N: Naming, R: Wait> Works for LaneCrew<'_, '_, G, N, R> {
     ghost use Rattle.std.specs.Prelude.{true};
 
     ghost gives = { true };
+
+    // A clone for each tap costs more than its windows, in whichever thread these are read.
+    fn reads_here(&self, packets: &Packets) -> bool {
+        packets.len() >= SOME_PACKETS
+    }
+
+    fn pass(&self, tap: u32, point: u32) {
+        self.gate.pass(Who::Tap(tap), point);
+    }
 
     fn run_lanes(&mut self, plan: &LanePlan, lanes: &mut Lanes, giver: &mut Option<Giver>) {
         let count = lanes.queues.len().saturating_add(lanes.taps.len());

@@ -1,13 +1,14 @@
 -- Lanes that hold nothing.
 
 use Rattle.std.proofs.Common.{◌≡◌, ℕ, zero, suc, List, [], ◌∷◌, refl, ap, arith, length}
-use Rattle.std.specs.Prelude.{All, Ok}
+use Rattle.std.specs.Prelude.{All, Bool, Ok}
 use Rattle.frags.specs.Account.{Tests, receipts_held, soles_home}
 use Rattle.gro.specs.Slots.{of_packets, counts_of, weighed_slots}
 use Rattle.taps.specs.Clones.{blocks_of, of_clones}
 use Rattle.lanes.specs.declared.lane.QueueLane.{QueueLane}
 use Rattle.lanes.specs.declared.lane.TapLane.{TapLane}
 use Rattle.lanes.specs.declared.lane.Lanes.{Lanes}
+use Rattle.lanes.specs.declared.plan.LanePlan.{LanePlan}
 use Rattle.lanes.specs.Lanes.{of_queue, of_queues, of_tap, of_taps, of_lanes, counts_of_queues, weighed_queues, AreIdle, IsIdleQueue, IsIdleTap, IsTapReady}
 use Rattle.gro.specs.declared.slot.Slot.{Slot as Held}
 use Rattle.lanes.specs.Filling.{Serves}
@@ -68,6 +69,7 @@ pub idle_clones : (ls : List TapLane) → All IsIdleTap ls → All (λ (l : TapL
 idle_clones ls h i d lt = (h i d lt).clones
 
 -- where there is no tap, nothing is served
-pub none_served : {T E : Type 0} (ps : List Held) (ls : List TapLane) (result : T) → length ls ≡ 0 → Serves {T = T} {E = E} ps ps ls ls (Ok result)
-none_served ps [] result none = record { kept = λ t m. (omega arith, omega arith); blocks = λ bs m. omega arith; ready = λ i d lt. absurd (omega arith); clones = tt; size = refl }
-none_served ps (l ∷ ls) result none = absurd (omega arith)
+pub none_served : {T E : Type 0} (shared : Bool) (plan : LanePlan) (ps : List Held) (ls : List TapLane) (result : T) → length ls ≡ 0
+    → Serves {T = T} {E = E} shared plan ps ps ls ls (Ok result)
+none_served shared plan ps [] result none = record { kept = λ t m. (omega arith, omega arith); blocks = λ bs m. omega arith; ready = λ i d lt. absurd (omega arith); served = tt; size = refl }
+none_served shared plan ps (l ∷ ls) result none = absurd (omega arith)

@@ -1,12 +1,12 @@
 -- All lanes of a round together.
-use Rattle.std.proofs.Common.{◌≡◌, ℕ, suc, ◌+◌, List, [], ◌∷◌, ◌++◌, map, length, refl, sym, ap, ◌∙◌, subst, arith}
-use Rattle.std.specs.Prelude.{All, IsSome, Some, Ok, Err, OnOk, MatchResult}
+use Rattle.std.proofs.Common.{◌≡◌, ℕ, suc, ◌+◌, List, [], ◌∷◌, ◌++◌, map, length, inl, inr, refl, sym, ap, ◌∙◌, subst, arith}
+use Rattle.std.specs.Prelude.{All, Bool, true, false, IsSome, Some, Ok, Err, OnOk, MatchResult}
+use Rattle.std.proofs.lemmas.Bool.{false≢true}
 use Rattle.std.specs.declared.result.Result.{Result}
 use Rattle.std.specs.List.{filter, flat_map, range_with_len}
 use Rattle.pcap_io.specs.Capture.{Packet}
 use Rattle.frags.specs.Account.{Account, Keeps, KeepsBlocks, both, every}
-use Rattle.tap_filter.specs.declared.instr.Instr.{Instr}
-use Rattle.std.specs.Prelude.{Option}
+use Rattle.std.specs.Prelude.{◌⊎◌}
 use Rattle.offload_model.specs.Merged.{merged_of}
 use Rattle.offload_model.specs.Rounds.{Spread, is_queued, items_of}
 use Rattle.offload_model.specs.Written.{record_of, shown_of, round_records, windows_of, Options}
@@ -17,13 +17,13 @@ use Rattle.lanes.specs.declared.lane.QueueLane.{QueueLane}
 use Rattle.lanes.specs.declared.lane.TapLane.{TapLane}
 use Rattle.lanes.specs.declared.lane.Lanes.{Lanes}
 use Rattle.lanes.specs.declared.plan.LanePlan.{LanePlan}
-use Rattle.lanes.specs.Lanes.{of_queues, of_taps, of_lanes, counts_of_queues, weighed_queues, AreIdle, EachTapDid, IsFilled, IsIdleQueue, IsIdleTap, IsMerged}
+use Rattle.lanes.specs.Lanes.{of_queues, of_taps, of_lanes, counts_of_queues, weighed_queues, AreIdle, IsFilled, IsIdleQueue, IsIdleTap, IsMerged}
 use Rattle.lanes.specs.Sharing.{EachFrom, IsSum}
 use Rattle.lanes.specs.Soles.{AreOfPackets}
-use Rattle.lanes.specs.Work.{spread_of, options_by, shown_by, AreFilled, AreUnshared, Did, Fills, IsDone, IsRefused, IsToWork, IsWorked, IsWatched, AreMerged, AreWatched, merged_in, lane_records, records_of_tap}
+use Rattle.lanes.specs.Work.{spread_of, options_by, shown_by, AreFilled, AreUnshared, DidAll, DidTaps, Fills, IsDone, IsRefused, IsToWork, IsUncloned, IsWorked, IsWatched, MayWatch, AreMerged, AreWatched, merged_in, lane_records, records_of_tap}
 use Rattle.lanes.proofs.Apart.{are_of_packets}
 use Rattle.lanes.proofs.Listing.{all_from, each_map, each_equal}
-use Rattle.lanes.proofs.Idle.{idle_lanes, idle_queues}
+use Rattle.lanes.proofs.Idle.{idle_clones, idle_lanes, idle_queues}
 use Rattle.lanes.proofs.Sharing.{idle_alone}
 use Rattle.lanes.proofs.Worked.{all_worked, all_watched, queues_alone, queues_count, queues_same, queues_weighed, taps_blocks, taps_kept, queue_records, tap_records}
 
@@ -66,17 +66,27 @@ blocks_all p q r ls ts k s bs m =
 no_taps : (n : ℕ) (ts : List TapLane) → length ts ≡ n → n ≡ 0 → All IsIdleTap ts
 no_taps n ts e none i d lt = absurd (omega (arith, e, none, lt))
 
+idle_there : (shared : Bool) (plan : LanePlan) (ts : List TapLane) → length ts ≡ plan.taps → (shared ≡ false → All IsIdleTap ts) → IsUncloned shared plan → All IsIdleTap ts
+idle_there shared plan ts e idle (inl off) = idle off
+idle_there shared plan ts e idle (inr none) = no_taps plan.taps ts e none
+
 -- nothing came to the lanes
-pub unshared_none : (plan : LanePlan) (ps : List Held) (l : Lanes) → AreIdle l → AreUnshared plan ps ps l
-unshared_none plan ps l idle = record { alone = λ none h. (h, idle_alone l.queues.items idle.0); idle = λ none. idle.1 }
+pub unshared_none : (shared : Bool) (plan : LanePlan) (ps : List Held) (l : Lanes) → AreIdle l → AreUnshared shared plan ps ps l
+unshared_none shared plan ps l idle = record { alone = λ none h. (h, idle_alone l.queues.items idle.0); idle = λ none. idle.1 }
 
 -- what came to them
-pub unshared_some : (plan : LanePlan) (old now : List Held) (l : Lanes) (ls : List QueueLane) (ts : List TapLane) → l.queues.items ≡ ls → l.taps.items ≡ ts → length ts ≡ plan.taps
-    → (plan.taps ≡ 0 → AreAlone old → AreAlone now × All (λ (m : QueueLane). AreAlone m.packets.items) ls) → AreUnshared plan old now l
-unshared_some plan old now l ls ts e f size h = record {
+pub unshared_some : (shared : Bool) (plan : LanePlan) (old now : List Held) (l : Lanes) (ls : List QueueLane) (ts : List TapLane) → l.queues.items ≡ ls → l.taps.items ≡ ts
+    → length ts ≡ plan.taps → (shared ≡ false → All IsIdleTap ts)
+    → (IsUncloned shared plan → AreAlone old → AreAlone now × All (λ (m : QueueLane). AreAlone m.packets.items) ls) → AreUnshared shared plan old now l
+unshared_some shared plan old now l ls ts e f size idle h = record {
   alone = λ none alone. let a = h none alone in (a.0, subst (All (λ (m : QueueLane). AreAlone m.packets.items)) (sym e) a.1);
-  idle = λ none. no_taps plan.taps l.taps.items (ap length f ∙ size) none;
+  idle = λ own. subst (All IsIdleTap) (sym f) (idle_there shared plan ts size idle own);
 }
+
+-- where there is no list of taps, there is none
+pub own_there : (shared : Bool) (plan : LanePlan) (n : ℕ) → n ≡ plan.taps → IsUncloned shared plan → (shared ≡ false) ⊎ (n ≡ 0)
+own_there shared plan n e (inl off) = inl off
+own_there shared plan n e (inr none) = inr (e ∙ none)
 
 -- ---- what all lanes have done
 
@@ -129,12 +139,35 @@ all_filled n ps ls h = all_from (IsToWork n ps) IsFilled 0 ls (λ q l w. w.fille
 
 -- ---- a round that is done
 
-no_clones : (filter : Option (List Instr)) (snap : ℕ) (ls ms : List TapLane) → length ms ≡ length ls → EachTapDid filter snap ls ms → All (λ (t : TapLane). t.clones.items ≡ []) ms
-no_clones filter snap ls ms e h i d lt = (h i d (omega (arith, e, lt))).none
+-- taps that read clones, or that had read before
+
+held_taps : (shared : Bool) (plan : LanePlan) (ls ms : List TapLane) → length ms ≡ length ls → DidTaps shared plan ls ms → Keeps (of_taps ls) (of_taps ms)
+held_taps true plan ls ms e d = taps_kept plan.filter plan.snap ls ms e d
+held_taps false plan ls ms e d = subst (λ (z : List TapLane). Keeps (of_taps ls) (of_taps z)) (sym d) (λ t m. (omega arith, omega arith))
+
+blocks_of_taps : (shared : Bool) (plan : LanePlan) (ls ms : List TapLane) → length ms ≡ length ls → DidTaps shared plan ls ms → KeepsBlocks (of_taps ls) (of_taps ms)
+blocks_of_taps true plan ls ms e d = taps_blocks plan.filter plan.snap ls ms e d
+blocks_of_taps false plan ls ms e d = subst (λ (z : List TapLane). KeepsBlocks (of_taps ls) (of_taps z)) (sym d) (λ bs m. omega arith)
+
+spent_taps : (shared : Bool) (plan : LanePlan) (ls ms : List TapLane) → length ms ≡ length ls → (shared ≡ false → All IsIdleTap ls) → DidTaps shared plan ls ms
+    → All (λ (t : TapLane). t.clones.items ≡ []) ms
+spent_taps true plan ls ms e idle d = λ i x lt. (d i x (omega (arith, e, lt))).none
+spent_taps false plan ls ms e idle d = subst (All (λ (t : TapLane). t.clones.items ≡ [])) (sym d) (idle_clones ls (idle refl))
+
+idle_taps_after : (shared : Bool) (plan : LanePlan) (ls ms : List TapLane) → length ms ≡ plan.taps → (IsUncloned shared plan → All IsIdleTap ls) → DidTaps shared plan ls ms
+    → IsUncloned shared plan → All IsIdleTap ms
+idle_taps_after true plan ls ms e idle d (inl off) = absurd (false≢true (sym off))
+idle_taps_after true plan ls ms e idle d (inr none) = no_taps plan.taps ms e none
+idle_taps_after false plan ls ms e idle d own = subst (All IsIdleTap) (sym d) (idle own)
+
+watched_taps : (shared : Bool) (plan : LanePlan) (ps : List Packet) (ls ms : List TapLane) → length ms ≡ length ls → EachFrom (MayWatch shared plan ps) 0 ls → DidTaps shared plan ls ms
+    → All (λ (m : TapLane). IsSome m.texts) ms → EachFrom (IsWatched plan.snap (shown_by plan ps)) 0 ms
+watched_taps true plan ps ls ms e h d read = all_watched plan.filter plan.snap ps ls ms e h d read
+watched_taps false plan ps ls ms e h d read = subst (EachFrom (IsWatched plan.snap (shown_by plan ps)) 0) (sym d) h
 
 -- what the packets hold is still in the lanes
-fills_did : (plan : LanePlan) (old : List Held) (l m : Lanes) → AreFilled plan old l → Did plan l m → Fills plan old [] m
-fills_did plan old l m f d =
+fills_did : (shared : Bool) (plan : LanePlan) (old : List Held) (l m : Lanes) → AreFilled shared plan old l → DidAll shared plan l m → Fills shared plan old [] m
+fills_did shared plan old l m f d =
     let e = queues_same plan.segs l.queues.items m.queues.items d.sizes.0 d.queues in
     let n = queues_count plan.segs l.queues.items m.queues.items d.sizes.0 d.queues in
     record {
@@ -142,27 +175,28 @@ fills_did plan old l m f d =
           let x = f.fills.kept t i in
           let y = ap (λ z. z.held t i) e in
           let w = ap (λ z. z.homes t.blocks i) e in
-          let z = taps_kept plan.filter plan.snap l.taps.items m.taps.items d.sizes.1 d.taps t i in
+          let z = held_taps shared plan l.taps.items m.taps.items d.sizes.1 d.taps t i in
           (omega (arith, x.0, y, z.0), omega (arith, x.1, w, z.1));
       blocks = λ bs i.
           let x = f.fills.blocks bs i in
           let y = ap (λ z. z.held (every bs) i) e in
           let w = ap (λ z. z.homes bs i) e in
-          let z = taps_blocks plan.filter plan.snap l.taps.items m.taps.items d.sizes.1 d.taps bs i in
+          let z = blocks_of_taps shared plan l.taps.items m.taps.items d.sizes.1 d.taps bs i in
           omega (arith, x, y, w, z);
       count = omega (arith, f.fills.count, n);
       named = λ w. omega (arith, f.fills.named w, queues_weighed w plan.segs l.queues.items m.queues.items d.sizes.0 d.queues);
       unshared = record {
-        alone = λ none h. (tt, queues_alone plan.segs l.queues.items m.queues.items d.sizes.0 d.queues (f.fills.unshared.alone none h).1);
-        idle = λ none. no_taps plan.taps m.taps.items (d.sizes.1 ∙ f.sizes.1) none;
+        alone = λ own h. (tt, queues_alone plan.segs l.queues.items m.queues.items d.sizes.0 d.queues (f.fills.unshared.alone own h).1);
+        idle = idle_taps_after shared plan l.taps.items m.taps.items (d.sizes.1 ∙ f.sizes.1) f.fills.unshared.idle d.taps;
       };
     }
 
-pub is_done : (plan : LanePlan) (old : List Held) (l m : Lanes) → AreFilled plan old l → Did plan l m → All (λ (t : TapLane). IsSome t.texts) m.taps.items → IsDone plan old m
-is_done plan old l m f d read =
+pub is_done : (shared : Bool) (plan : LanePlan) (old : List Held) (l m : Lanes) → AreFilled shared plan old l → DidAll shared plan l m → All (λ (t : TapLane). IsSome t.texts) m.taps.items
+    → IsDone shared plan old m
+is_done shared plan old l m f d read =
     let ps = map packet_of old in
     let qs = all_worked plan.segs (spread_of plan) ps l.queues.items m.queues.items d.sizes.0 f.queues d.queues in
-    let ts = all_watched plan.filter plan.snap ps l.taps.items m.taps.items d.sizes.1 f.taps d.taps read in
+    let ts = watched_taps shared plan ps l.taps.items m.taps.items d.sizes.1 f.taps d.taps read in
     let a : length m.queues.items ≡ plan.queues = d.sizes.0 ∙ f.sizes.0 in
     let b : length m.taps.items ≡ plan.taps = d.sizes.1 ∙ f.sizes.1 in
     record {
@@ -172,20 +206,20 @@ is_done plan old l m f d read =
       merged = all_from (IsWorked plan.segs (spread_of plan) ps) IsMerged 0 m.queues.items (λ i q w. w.is) qs;
       packets =
           each_map (IsWorked plan.segs (spread_of plan) ps) (λ q (l : QueueLane). map packet_of l.packets.items ≡ filter (is_queued (spread_of plan) q) ps) 0 m.queues.items (λ q l w. w.packets) qs;
-      fills = fills_did plan old l m f d;
-      clones = no_clones plan.filter plan.snap l.taps.items m.taps.items d.sizes.1 d.taps;
+      fills = fills_did shared plan old l m f d;
+      clones = spent_taps shared plan l.taps.items m.taps.items d.sizes.1 (λ off. f.fills.unshared.idle (inl off)) d.taps;
     }
 
-pub is_refused : (plan : LanePlan) (old : List Held) (l m : Lanes) → AreFilled plan old l → Did plan l m → IsRefused plan old [] m
-is_refused plan old l m f d = record {
-  fills = fills_did plan old l m f d;
-  clones = no_clones plan.filter plan.snap l.taps.items m.taps.items d.sizes.1 d.taps;
+pub is_refused : (shared : Bool) (plan : LanePlan) (old : List Held) (l m : Lanes) → AreFilled shared plan old l → DidAll shared plan l m → IsRefused shared plan old [] m
+is_refused shared plan old l m f d = record {
+  fills = fills_did shared plan old l m f d;
+  clones = spent_taps shared plan l.taps.items m.taps.items d.sizes.1 (λ off. f.fills.unshared.idle (inl off)) d.taps;
 }
 
 -- what taps have given back is of the packets' blocks, also after the work
-pub of_packets_after : (plan : LanePlan) (old now : List Held) (l m : Lanes) → now ≡ [] → AreFilled plan old l → Did plan l m → AreOfPackets now m
-of_packets_after plan old now l m none f d =
-    let r = fills_did plan old l m f d in
+pub of_packets_after : (shared : Bool) (plan : LanePlan) (old now : List Held) (l m : Lanes) → now ≡ [] → AreFilled shared plan old l → DidAll shared plan l m → AreOfPackets now m
+of_packets_after shared plan old now l m none f d =
+    let r = fills_did shared plan old l m f d in
     subst (λ (z : List Held). AreOfPackets z m) (sym none) (are_of_packets old [] m.queues.items m.taps.items r.blocks r.named)
 
 -- taps gave back the clones that they got before memory was refused: so many blocks are no more
@@ -206,10 +240,10 @@ kept_given p q qs ts us vs k e g t m =
     (omega (arith, x.0, y.0, a), omega (arith, x.1, y.1, a, b))
 
 -- the same lanes, each list by its equation
-pub is_given_up : (plan : LanePlan) (old now : List Held) (l m : Lanes) (us vs : List TapLane) → m.queues.items ≡ l.queues.items → m.taps.items ≡ vs → us ≡ l.taps.items
-    → Fills plan old now l → Keeps (of_taps us) (of_taps vs) → KeepsBlocks (of_taps us) (of_taps vs) → All (λ (t : TapLane). t.clones.items ≡ []) vs
-    → (All IsIdleTap us → All IsIdleTap vs) → IsRefused plan old now m
-is_given_up plan old now l m us vs queues taps same f kept_taps blocks_taps clones idle =
+pub is_given_up : (shared : Bool) (plan : LanePlan) (old now : List Held) (l m : Lanes) (us vs : List TapLane) → m.queues.items ≡ l.queues.items → m.taps.items ≡ vs → us ≡ l.taps.items
+    → Fills shared plan old now l → Keeps (of_taps us) (of_taps vs) → KeepsBlocks (of_taps us) (of_taps vs) → All (λ (t : TapLane). t.clones.items ≡ []) vs
+    → (All IsIdleTap us → All IsIdleTap vs) → IsRefused shared plan old now m
+is_given_up shared plan old now l m us vs queues taps same f kept_taps blocks_taps clones idle =
     let P : List QueueLane → List TapLane → Type 0 = λ qs ts. Keeps (of_packets old) (both (of_packets now) (both (of_queues qs) (of_taps ts))) in
     let B : List QueueLane → List TapLane → Type 0 = λ qs ts. KeepsBlocks (of_packets old) (both (of_packets now) (both (of_queues qs) (of_taps ts))) in
     let k = kept_given (of_packets old) (of_packets now) l.queues.items l.taps.items us vs f.kept same kept_taps in
@@ -231,7 +265,7 @@ is_given_up plan old now l m us vs queues taps same f kept_taps blocks_taps clon
     }
 
 -- whether all was done or not, nothing is lost
-pub fills_after : {E : Type 0} (r : Result (Unit {0}) E) (plan : LanePlan) (old now : List Held) (l : Lanes) → now ≡ [] → MatchResult r (λ _. IsDone plan old l) (λ _. IsRefused plan old [] l)
-    → Fills plan old now l
-fills_after (Ok u) plan old now l none is = subst (λ (z : List Held). Fills plan old z l) (sym none) is.fills
-fills_after (Err e) plan old now l none is = subst (λ (z : List Held). Fills plan old z l) (sym none) is.fills
+pub fills_after : {E : Type 0} (r : Result (Unit {0}) E) (shared : Bool) (plan : LanePlan) (old now : List Held) (l : Lanes) → now ≡ []
+    → MatchResult r (λ _. IsDone shared plan old l) (λ _. IsRefused shared plan old [] l) → Fills shared plan old now l
+fills_after (Ok u) shared plan old now l none is = subst (λ (z : List Held). Fills shared plan old z l) (sym none) is.fills
+fills_after (Err e) shared plan old now l none is = subst (λ (z : List Held). Fills shared plan old z l) (sym none) is.fills

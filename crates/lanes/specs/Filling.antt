@@ -1,5 +1,5 @@
 -- What private calls say of lanes that get what they have to do.
-use Rattle.std.specs.Prelude.{ℕ, ◌≡◌, ◌+◌, ◌≤◌, All, List, length, map, OnOk, Result}
+use Rattle.std.specs.Prelude.{ℕ, ◌≡◌, ◌+◌, ◌≤◌, All, Bool, true, List, length, map, OnOk, Result}
 use Rattle.frags.specs.Account.{Keeps, KeepsBlocks, both}
 use Rattle.gro.specs.declared.slot.Slot.{Slot as Held}
 use Rattle.gro.specs.Slots.{packet_of, of_packets, counts_of, weighed_slots, AreAlone, AreHeld, AreShared, WeighAtLeast}
@@ -13,8 +13,7 @@ use Rattle.lanes.specs.Lanes.{of_queues, of_taps, counts_of_queues, weighed_queu
 use Rattle.lanes.specs.Lanes.{AreIdle, IsFilled, IsIdleTap, IsTapReady}
 use Rattle.lanes.specs.Packets.{RiseFrom}
 use Rattle.lanes.specs.Sharing.{EachFrom, IsSharing, IsSum}
-use Rattle.lanes.specs.Taps.{HasClones}
-use Rattle.lanes.specs.Work.{spread_of, IsPlan}
+use Rattle.lanes.specs.Work.{spread_of, IsPlan, MayWatch}
 
 -- ---- packets go to their queues
 
@@ -43,22 +42,22 @@ pub record CanServe (lanes : List TapLane) (packets : List Held) : Type 0 where
   pub held : AreHeld packets
   pub weigh : WeighAtLeast (weight_after 1) packets
 
--- each tap has a clone of each packet, or for want of memory those that were made
-pub record Serves {T E : Type 0} (old new : List Held) (before after : List TapLane) (result : Result T E)
-    : Type 0 where
+-- each tap has a clone of each packet or has read it, or for want of memory has what was made
+pub record Serves {T E : Type 0} (shared : Bool) (plan : LanePlan) (old new : List Held) (before after : List TapLane)
+    (result : Result T E) : Type 0 where
   pub kept : Keeps (of_packets old) (both (of_packets new) (of_taps after))
   pub blocks : KeepsBlocks (of_packets old) (both (of_packets new) (of_taps after))
   pub ready : All IsTapReady after
-  pub clones : OnOk result (EachFrom (HasClones (map packet_of old)) 0 after)
+  pub served : OnOk result (EachFrom (MayWatch shared plan (map packet_of old)) 0 after)
   pub size : length after ≡ length before
 
 -- ---- all lanes
 
 -- the packets of a round, and lanes that are idle
-pub record CanFill (by : LanePlan) (packets : List Held) (lanes : Lanes) : Type 0 where
+pub record CanFill (lent : Bool) (by : LanePlan) (packets : List Held) (lanes : Lanes) : Type 0 where
   pub plan : IsPlan by
   pub held : AreHeld packets
-  pub shared : 1 ≤ by.taps → AreShared packets
+  pub shared : lent ≡ true → 1 ≤ by.taps → AreShared packets
   pub weighs : WeighAtLeast (weight_after 1) packets
   pub rising : RiseFrom 0 (map packet_of packets)
   pub few : counts_of packets ≤ 65536

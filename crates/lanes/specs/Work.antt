@@ -1,5 +1,5 @@
 -- The lanes of a round after their work, and the records that are written of them.
-use Rattle.std.specs.Prelude.{ℕ, ◌≡◌, ◌+◌, ◌≤◌, Option, None, Some, All, List, [], ◌++◌, map, length}
+use Rattle.std.specs.Prelude.{ℕ, ◌≡◌, ◌+◌, ◌≤◌, ◌⊎◌, Bool, true, false, Option, None, Some, All, List, [], ◌++◌, map, length}
 use Rattle.std.specs.List.{filter, flat_map, range_with_len}
 use Rattle.pcap_io.specs.Capture.{Packet}
 use Rattle.frags.specs.Account.{Keeps, KeepsBlocks, both}
@@ -99,24 +99,34 @@ pub record IsWatched (snap : ℕ) (ps : List Packet) (t : ℕ) (l : TapLane) : T
 
 -- ---- all lanes
 
--- where no tap is, nobody shares a block of packets of which nobody shared one, and taps have nothing
-pub record AreUnshared (plan : LanePlan) (old new : List Held) (l : Lanes) : Type 0 where
-  pub alone : plan.taps ≡ 0 → AreAlone old → AreAlone new × All (λ m. AreAlone m.packets.items) l.queues.items
-  pub idle : plan.taps ≡ 0 → All IsIdleTap l.taps.items
+-- taps get no clones: there is none, or each reads packets where they lie
+abbrev pub IsUncloned : Bool → LanePlan → Type 0
+IsUncloned shared plan = (shared ≡ false) ⊎ (plan.taps ≡ 0)
+
+-- where taps get none, nobody shares a block of packets of which nobody shared one, and taps have nothing
+pub record AreUnshared (shared : Bool) (plan : LanePlan) (old new : List Held) (l : Lanes) : Type 0 where
+  pub alone : IsUncloned shared plan → AreAlone old
+      → AreAlone new × All (λ m. AreAlone m.packets.items) l.queues.items
+  pub idle : IsUncloned shared plan → All IsIdleTap l.taps.items
 
 -- what isn't in the list any more is in the lanes
-pub record Fills (plan : LanePlan) (old new : List Held) (l : Lanes) : Type 0 where
+pub record Fills (shared : Bool) (plan : LanePlan) (old new : List Held) (l : Lanes) : Type 0 where
   pub kept : Keeps (of_packets old) (both (of_packets new) (of_lanes l))
   pub blocks : KeepsBlocks (of_packets old) (both (of_packets new) (of_lanes l))
   pub count : counts_of new + counts_of_queues l.queues.items ≡ counts_of old
   pub named : (h : ℕ → ℕ) → weighed_slots h new + weighed_queues h l.queues.items ≡ weighed_slots h old
-  pub unshared : AreUnshared plan old new l
+  pub unshared : AreUnshared shared plan old new l
+
+-- tap t has a clone of each of these packets, or has read them where they lie
+abbrev pub MayWatch : Bool → LanePlan → List Packet → ℕ → TapLane → Type 0
+MayWatch true plan ps = HasClones ps
+MayWatch false plan ps = IsWatched plan.snap (shown_by plan ps)
 
 -- they have what they are to do
-pub record AreFilled (plan : LanePlan) (old : List Held) (l : Lanes) : Type 0 where
-  pub fills : Fills plan old [] l
+pub record AreFilled (shared : Bool) (plan : LanePlan) (old : List Held) (l : Lanes) : Type 0 where
+  pub fills : Fills shared plan old [] l
   pub queues : EachFrom (IsToWork (spread_of plan) (map packet_of old)) 0 l.queues.items
-  pub taps : EachFrom (HasClones (map packet_of old)) 0 l.taps.items
+  pub taps : EachFrom (MayWatch shared plan (map packet_of old)) 0 l.taps.items
   pub sizes : (length l.queues.items ≡ plan.queues) × (length l.taps.items ≡ plan.taps)
 
 -- each queue has done it, and each tap, or for want of memory that gave back what it had
@@ -125,18 +135,29 @@ pub record Did (plan : LanePlan) (old new : Lanes) : Type 0 where
   pub taps : EachTapDid plan.filter plan.snap old.taps.items new.taps.items
   pub sizes : (length new.queues.items ≡ length old.queues.items) × (length new.taps.items ≡ length old.taps.items)
 
+-- taps that have read stay as they are
+abbrev pub DidTaps : Bool → LanePlan → List TapLane → List TapLane → Type 0
+DidTaps true plan xs ys = EachTapDid plan.filter plan.snap xs ys
+DidTaps false plan xs ys = ys ≡ xs
+
+-- all lanes that had something to do
+pub record DidAll (shared : Bool) (plan : LanePlan) (old new : Lanes) : Type 0 where
+  pub queues : EachQueueDid plan.segs old.queues.items new.queues.items
+  pub taps : DidTaps shared plan old.taps.items new.taps.items
+  pub sizes : (length new.queues.items ≡ length old.queues.items) × (length new.taps.items ≡ length old.taps.items)
+
 -- what a round comes to
-pub record IsDone (plan : LanePlan) (old : List Held) (l : Lanes) : Type 0 where
+pub record IsDone (shared : Bool) (plan : LanePlan) (old : List Held) (l : Lanes) : Type 0 where
   pub lanes : AreMerged plan.segs (spread_of plan) plan.queues (map packet_of old) l.queues.items
   pub windows : AreWatched plan.snap plan.taps (shown_by plan (map packet_of old)) l.taps.items
   pub records : (budget : ℕ) → lane_records l ≡ round_records (options_by plan budget) (map packet_of old)
   pub merged : All IsMerged l.queues.items
   pub packets : EachFrom (λ q (m : QueueLane). map packet_of m.packets.items
       ≡ filter (is_queued (spread_of plan) q) (map packet_of old)) 0 l.queues.items
-  pub fills : Fills plan old [] l
+  pub fills : Fills shared plan old [] l
   pub clones : All (λ t. t.clones.items ≡ []) l.taps.items
 
 -- where memory was refused: the packets that stay, and what the lanes have of the others
-pub record IsRefused (plan : LanePlan) (old new : List Held) (l : Lanes) : Type 0 where
-  pub fills : Fills plan old new l
+pub record IsRefused (shared : Bool) (plan : LanePlan) (old new : List Held) (l : Lanes) : Type 0 where
+  pub fills : Fills shared plan old new l
   pub clones : All (λ t. t.clones.items ≡ []) l.taps.items

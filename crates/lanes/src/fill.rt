@@ -1,5 +1,5 @@
 //! Lanes before their work: memory first, then clones for the taps. The packets go to the queues last, by `share`.
-ghost use Rattle.std.specs.Prelude.{◌≡◌, ◌+◌, ◌<◌, ◌≤◌, None, List, [], length, map, All, OnOk};
+ghost use Rattle.std.specs.Prelude.{◌≡◌, ◌+◌, ◌<◌, ◌≤◌, ◌⊎◌, None, List, [], length, map, All, OnOk, true, false};
 ghost use Rattle.frags.specs.Account.{Keeps, KeepsBlocks, both};
 ghost use Rattle.gro.specs.declared.slot.Slot.{Slot as Held};
 ghost use Rattle.gro.specs.Slots.{packet_of, of_packets, counts_of, AreHeld, AreShared, WeighAtLeast};
@@ -15,6 +15,8 @@ use crate::clones::clone_all;
 use crate::free::{free_queues, free_taps};
 use crate::lane::{Lanes, QueueLane, TapLane};
 use crate::plan::LanePlan;
+use crate::read::read_taps;
+use crate::works::Works;
 use core::mem::replace;
 use gro::Packets;
 use std::alloc::{AllocError, Global};
@@ -107,7 +109,7 @@ pub(crate) fn open_lanes(
 }
 
 // The lane of a tap begins: it has read nothing. The windows of the round before are its memory.
-fn begin_tap(lane: &mut TapLane, tap: u32)
+pub(crate) fn begin_tap(lane: &mut TapLane, tap: u32)
     ensures tap { lane.new.tap ≡ tap }
     ensures unread { lane.new.texts ≡ None }
     ensures clones { lane.new.clones ≡ lane.old.clones }
@@ -153,7 +155,8 @@ fn fill_taps(lanes: &mut [TapLane], count: usize, packets: &mut Packets) -> Resu
     requires shared { AreShared packets.old.items }
     requires count { count ≡ counts_of packets.old.items }
     ensures after { AreAfter 9 packets.old.items packets.new.items }
-    ensures serves { Serves packets.old.items packets.new.items lanes.old lanes.new result }
+    ensures serves { (plan : LanePlan) → Serves true plan packets.old.items packets.new.items lanes.old lanes.new
+        result }
 {
     for i in 0..lanes.len() {
         fill_tap(&mut lanes[i], i as u32, count, packets)?;
@@ -161,21 +164,45 @@ fn fill_taps(lanes: &mut [TapLane], count: usize, packets: &mut Packets) -> Resu
     Ok(())
 }
 
-/// Each tap gets a clone of each packet. Where there is no tap nothing is counted and nothing is asked of the packets:
-/// they stay as they are.
-pub(crate) fn serve_taps(lanes: &mut [TapLane], packets: &mut Packets) -> Result<(), AllocError>
+// Each tap gets a clone of each packet. Where there is no tap nothing is counted and nothing is asked of the packets:
+// they stay as they are.
+fn clone_for_taps(lanes: &mut [TapLane], packets: &mut Packets) -> Result<(), AllocError>
     requires may { CanServe lanes.old packets.old.items }
     requires shared { 1 ≤ length lanes.old → AreShared packets.old.items }
     requires counts { counts_of packets.old.items ≤ 65536 }
     ensures same { AreSame packets.old.items packets.new.items }
     ensures stay { length lanes.old ≡ 0 → packets.new.items ≡ packets.old.items }
-    ensures serves { Serves packets.old.items packets.new.items lanes.old lanes.new result }
+    ensures serves { (plan : LanePlan) → Serves true plan packets.old.items packets.new.items lanes.old lanes.new
+        result }
 {
     if lanes.is_empty() {
         return Ok(());
     }
     let count = weigh(packets);
     fill_taps(lanes, count, packets)
+}
+
+/// Each tap gets a clone of each packet where their heads are shared. Else it reads each where it lies, and packets
+/// stay as they are.
+pub(crate) fn serve_taps<W: Works>(
+    works: &W,
+    plan: &LanePlan,
+    shared: bool,
+    lanes: &mut [TapLane],
+    packets: &mut Packets,
+) -> Result<(), AllocError>
+    requires may { CanServe lanes.old packets.old.items }
+    requires shared { shared ≡ true → 1 ≤ length lanes.old → AreShared packets.old.items }
+    requires counts { counts_of packets.old.items ≤ 65536 }
+    ensures same { AreSame packets.old.items packets.new.items }
+    ensures stay { (shared ≡ false) ⊎ (length lanes.old ≡ 0) → packets.new.items ≡ packets.old.items }
+    ensures idle { shared ≡ false → All IsIdleTap lanes.new }
+    ensures serves { Serves shared plan.now packets.old.items packets.new.items lanes.old lanes.new result }
+{
+    if shared {
+        return clone_for_taps(lanes, packets);
+    }
+    read_taps(works, plan, lanes, packets)
 }
 
 // The clones of a tap that won't read them are given back.

@@ -18,17 +18,19 @@
 //!              runs       p0 -> p2 -> p3,  p1,  p4     by index, by first packets (`frame_runs::Engine`)
 //! ```
 //!
-//! [`work_packets`] fills idle lanes: it clones each packet for each tap, and spreads the packets over the queues by
-//! their flows. With one queue the list of packets becomes the lane's as it stands, and no packet moves; with several
+//! [`work_packets`] fills idle lanes: it clones each packet for each tap, or has each tap read the packets where they lie,
+//! and spreads the packets over the queues by their flows. With one queue the list of packets becomes the lane's as it stands, and no packet moves; with several
 //! the list is turned in place, and then each packet moves once. Then each queue's engine takes the memory for as many
 //! packets as the queue has. Then all lanes are worked by a [`Works`]: by the thread that calls, one after another
 //! ([`Alone`], [`Beside`]), or by all who run tasks beside it (`lane_crew::LaneCrew`). A queue's work takes no memory
 //! and can't be refused. A tap's lane holds room for all that its clones may leave before it gets them, so giving back
 //! wants no memory.
 //!
-//! Only what is cloned is shared. Where there are taps, whoever has the packets shares their heads first
-//! (`gro::Packets::share_heads`), and each clone takes of a block's weight. Without taps nothing is asked of the heads,
-//! nothing is counted, and packets of which nobody shares a block come out of the work as such.
+//! Only what is cloned is shared. Where taps get clones, whoever has the packets shares their heads first
+//! (`gro::Packets::share_heads`), and each clone takes of a block's weight. Where the thread that calls reads for taps
+//! (`reads_here` of [`Works`]) they want no clone: each reads the packets before any goes to its queue, and no count word
+//! is stepped for it. Then, and without taps, nothing is asked of the heads, nothing is counted, and packets
+//! of which nobody shares a block come out of the work as such.
 //!
 //! Blocks that a round has and that no packet holds, its spares, lie in no lane. Where others read the next round
 //! beside the work they are lent with a `block_pool::Giver`, and go to the pool that these take lists from as soon as a
@@ -52,8 +54,8 @@
 //!   stays are as many blocks and parts as the packets had; `clones`: no clone is left.
 //! - `no_soles`: no tap has a Sole, also where memory is refused: what taps gave back left receipts alone. A Sole that
 //!   one had would be of a block that a packet still holds, and no Sole of that stands beside it.
-//! - `alone` and `idle`: without taps, where nobody else held a block of the packets nobody does of those in the lanes
-//!   and of those that stay, and the lanes of taps have nothing that is to be brought home.
+//! - `alone` and `idle`: where taps get no clones, and nobody else held a block of the packets, nobody does of those in
+//!   the lanes and of those that stay, and the lanes of taps have nothing that is to be brought home.
 //! - `gave`: of the blocks that were lent some went to the pool, or none, whoever works and also where memory is
 //!   refused: by any weight of blocks what was given and what still lies there is what did before, and the pass has all
 //!   its parts again. So between two rounds nothing that was lent is in a lane or with a crew.
@@ -81,7 +83,15 @@
 //! };
 //! let mut works = Alone { gate: &NoGate };
 //! let mut lanes = Lanes::new(alloc);
-//! let blocks = match work_packets(&mut works, alloc, &mut packets, &plan, &mut lanes, &mut None) {
+//! let blocks = match work_packets(
+//!     &mut works,
+//!     alloc,
+//!     &mut packets,
+//!     &plan,
+//!     true, // heads are shared, so the tap gets clones
+//!     &mut lanes,
+//!     &mut None,
+//! ) {
 //!     Ok(()) => {
 //!         packets.discard();
 //!         all_home(&rt, lanes) // once what they came to is written
@@ -92,8 +102,8 @@
 //!
 //! Its parts: `plan` (how many lanes), `lane` (what each has to do, and what it has done), `flow_queue` (the queue of a
 //! packet's flow, folded where plain headers lie), `share` (packets to their queues, and memory for their runs),
-//! `clones` and `fill` (what taps get, where there are any), `keep` (a clone of each packet beside the work), `working`
-//! (one lane's work), `works` (who does it) and `frame_lengths` (by which that is chosen); `giving` (a list that is
+//! `clones` and `fill` (what taps get, where there are any), `read` (packets that taps read where they lie), `keep` (a
+//! clone of each packet beside the work), `working` (one lane's work), `works` (who does it) and `frame_lengths` (by which that is chosen); `giving` (a list that is
 //! lent goes back), `shared` (the filter that taps share), `soles` (why taps have none) and `free`; and on these
 //! `round`.
 //!
@@ -111,8 +121,11 @@
 //!   runs of its last round, and nothing that says what lanes hold has to speak of engines.
 //! - **The list is turned before packets are spread**: they leave it by its end, where none of the others has to move,
 //!   and are to come to their lanes in order. Where memory is refused it is turned again.
+//! - **A tap that reads where packets lie reads before they part**: then they stand in their order in one list, over
+//!   however many queues. Its lane stays apart while the queues are worked, so who works lanes knows taps with clones
+//!   alone.
 //! - **Only memory stops lanes from being filled**: first there are as many as the plan has, then come each tap's
-//!   clones of all packets, then the packets go to their queues, and at last each queue's engine takes its memory. So
+//!   clones of all packets, or its windows, then the packets go to their queues, and at last each queue's engine takes its memory. So
 //!   clones are of packets in their order, and a packet that there is no memory for stands in front of the others
 //!   again. Where a tap isn't run its clones are given back at once.
 //! - **Memory is taken before the work and not in it**, so a queue's worker has no answer but its runs, and all that a
@@ -134,6 +147,7 @@ mod giving;
 mod keep;
 mod lane;
 mod plan;
+mod read;
 mod round;
 mod share;
 mod shared;
@@ -141,7 +155,7 @@ mod soles;
 mod working;
 mod works;
 
-pub use frame_lengths::{FrameLengths, have_short_frames};
+pub use frame_lengths::{FrameLengths, SOME_PACKETS, have_short_frames};
 pub use free::{free_queue, free_tap};
 pub use giving::give_back;
 pub use keep::keep_packets;

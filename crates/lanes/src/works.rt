@@ -8,13 +8,20 @@ use crate::lane::Lanes;
 use crate::plan::LanePlan;
 use crate::working::{run_and_give, run_in_turn};
 use block_pool::Giver;
-use off_io::Gate;
+use gro::Packets;
+use off_io::{Gate, Who};
 use std::sync::Wait;
 
 /// Who works the lanes of a round.
 pub trait Works {
     /// Whether blocks go back while lanes are worked.
     ghost gives: { Bool };
+
+    /// Whether taps best read these packets where they lie, in the thread that calls, and not as lanes of their own.
+    fn reads_here(&self, packets: &Packets) -> bool;
+
+    /// A tap's task passes the gate, as lanes do: at point 0 before its work and at point 1 after it.
+    fn pass(&self, tap: u32, point: u32);
 
     /// Each lane does what it has to do, in whichever order. What lies in the giver's list may go back to its pool
     /// meanwhile; where `gives` says that it does, no block is left there, unless a put found no place.
@@ -38,6 +45,14 @@ impl<G: Gate> Works for Alone<'_, G> {
 
     ghost gives = { false };
 
+    fn reads_here(&self, _packets: &Packets) -> bool {
+        true
+    }
+
+    fn pass(&self, tap: u32, point: u32) {
+        self.gate.pass(Who::Tap(tap), point);
+    }
+
     fn run_lanes(&mut self, plan: &LanePlan, lanes: &mut Lanes, _giver: &mut Option<Giver>) {
         run_in_turn(self.gate, plan, lanes);
     }
@@ -55,6 +70,14 @@ pub struct Beside<'a, G, R> {
 
 impl<G: Gate, R: Wait> Works for Beside<'_, G, R> {
     ghost gives = { true };
+
+    fn reads_here(&self, _packets: &Packets) -> bool {
+        true
+    }
+
+    fn pass(&self, tap: u32, point: u32) {
+        self.gate.pass(Who::Tap(tap), point);
+    }
 
     fn run_lanes(&mut self, plan: &LanePlan, lanes: &mut Lanes, giver: &mut Option<Giver>) {
         run_and_give(self.gate, self.rt, plan, lanes, giver);

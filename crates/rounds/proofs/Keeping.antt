@@ -34,7 +34,7 @@ use Rattle.lanes.specs.Lanes.{of_lanes, counts_of_queues, weighed_queues, AreIdl
 use Rattle.lanes.proofs.Idle.{idle_clones, idle_counts, idle_lanes, idle_weighed}
 use Rattle.lanes.specs.Packets.{RiseFrom}
 use Rattle.lanes.specs.Sharing.{EachFrom}
-use Rattle.lanes.specs.Work.{IsPlan, options_by, spread_of, shown_by, AreMerged, AreWatched}
+use Rattle.lanes.specs.Work.{IsPlan, IsUncloned, options_by, spread_of, shown_by, AreMerged, AreWatched}
 use Rattle.reading.specs.Laid.{AreRead, IsRead, LaidFrom}
 use Rattle.reading.proofs.Laying.{laid_all}
 use Rattle.rounds.specs.Fresh.{NumberedFrom}
@@ -144,9 +144,9 @@ out_idle false n qs lanes kept idle r = record {
 pub out_alone : (n : ℕ) (ps : List Held) (lanes : Lanes) (kept : List TapClone) → LaidFrom 0 ps → counts_of ps ≡ n → AreIdle lanes → kept ≡ [] → IsOut false n ps lanes kept
 out_alone n ps lanes kept laid count idle none = out_idle false n ps lanes kept idle (record { packets = laid_all 0 ps laid; count = count; none = none })
 
-head_shared : (shared : Bool) (taps n : ℕ) (qs : List Held) (kept : List TapClone) → (shared ≡ false → taps ≡ 0) → IsOneRound shared n qs kept → 1 ≤ taps → AreShared qs
-head_shared true taps n qs kept none r some = r.heads
-head_shared false taps n qs kept none r some = absurd (omega (arith, none refl, some))
+head_shared : (shared : Bool) (n : ℕ) (qs : List Held) (kept : List TapClone) → IsOneRound shared n qs kept → shared ≡ true → AreShared qs
+head_shared true n qs kept r on = r.heads
+head_shared false n qs kept r on = absurd (false≢true on)
 
 -- so much of a round that isn't a spare
 pub at_count : (shared : Bool) (m n : ℕ) (qs : List Held) (kept : List TapClone) → m ≡ n → IsOneRound shared m qs kept → IsOneRound shared n qs kept
@@ -161,20 +161,19 @@ sole_of false keep taps only off none = refl
 sole_of true keep taps only off none = absurd (sole_from keep taps (only refl) off none)
 
 pub are_kept : (keep : Bool) (taps n : ℕ) (ps : List Held) (k : Kept) → k.blocks ≡ n → counts_of ps + home k.spares ≡ n → AllByRecursion IsCaptured (map packet_of ps)
-    → (j : ℕ) × NumberedFrom j ps → n ≤ 65536 → (k.shared ≡ false → taps ≡ 0) → (k.shared ≡ true → (keep ≡ true) ⊎ (1 ≤ taps)) → IsPrepared k.shared ps k.packets.items k.kept.items
+    → (j : ℕ) × NumberedFrom j ps → n ≤ 65536 → (k.shared ≡ true → (keep ≡ true) ⊎ (1 ≤ taps)) → IsPrepared k.shared ps k.packets.items k.kept.items
     → (keep ≡ true → map packet_of_clone k.kept.items ≡ map packet_of ps)
     → IsKept keep taps (map packet_of ps) n k
-are_kept keep taps n ps k size counts captured numbers few unshared only p clones = record {
+are_kept keep taps n ps k size counts captured numbers few only p clones = record {
   same = p.same;
   size = size;
   held = p.held;
-  shown = head_shared k.shared taps (counts_of ps) k.packets.items k.kept.items unshared p.round;
+  shown = head_shared k.shared (counts_of ps) k.packets.items k.kept.items p.round;
   weighs = p.weighs;
   rising = subst (RiseFrom 0) (sym p.same) (rise 0 numbers.0 ps (omega arith) numbers.1);
   fit = subst (AllByRecursion Fits) (sym p.same) (captured_fit (map packet_of ps) captured);
   few = omega (arith, p.count, counts, few);
   spares = omega (arith, counts, size);
-  unshared = unshared;
   sole = sole_of k.shared keep taps only;
   round = at_count k.shared (counts_of ps) (k.blocks - home k.spares) k.packets.items k.kept.items (omega (arith, counts, size)) p.round;
   clones = clones;
@@ -232,12 +231,13 @@ ok_of : {E : Type 0} (r : Result (Unit {0}) E) (P : Type 0) → r ≡ Ok tt → 
 ok_of r P e h = subst (λ z. OnOk z P) e h
 
 -- packets went from ps to qs and to the lanes
-pub out_worked : (shared : Bool) (taps n : ℕ) (ps qs : List Held) (lanes : Lanes) (kept : List TapClone) → (shared ≡ false → taps ≡ 0) → IsOneRound shared n ps kept
+pub out_worked : (shared : Bool) (plan : LanePlan) (n : ℕ) (ps qs : List Held) (lanes : Lanes) (kept : List TapClone) → IsOneRound shared n ps kept
     → Keeps (of_packets ps) (both (of_packets qs) (of_lanes lanes)) → KeepsBlocks (of_packets ps) (both (of_packets qs) (of_lanes lanes))
     → ((h : ℕ → ℕ) → weighed_slots h qs + weighed_queues h lanes.queues.items ≡ weighed_slots h ps) → counts_of qs + counts_of_queues lanes.queues.items ≡ counts_of ps → AreSpent lanes.taps.items
-    → (taps ≡ 0 → AreAlone ps → AreAlone qs × All (λ (l : QueueLane). AreAlone l.packets.items) lanes.queues.items) → (taps ≡ 0 → All IsIdleTap lanes.taps.items)
+    → (IsUncloned shared plan → AreAlone ps → AreAlone qs × All (λ (l : QueueLane). AreAlone l.packets.items) lanes.queues.items)
+    → (IsUncloned shared plan → All IsIdleTap lanes.taps.items)
     → IsOut shared n qs lanes kept
-out_worked true taps n ps qs lanes kept unshared r keeps blocks named count spent alone idle = record {
+out_worked true plan n ps qs lanes kept r keeps blocks named count spent alone idle = record {
   round = round_keeps n (both (of_packets ps) (of_clones kept)) (both (of_packets qs) (both (of_lanes lanes) (of_clones kept)))
       (λ t m. let x = keeps t m in (omega (arith, x.0), omega (arith, x.0, x.1))) r.round;
   names = r.names;
@@ -247,15 +247,14 @@ out_worked true taps n ps qs lanes kept unshared r keeps blocks named count spen
   counts = omega (arith, r.counts, count);
   spent = spent;
 }
-out_worked false taps n ps qs lanes kept unshared r keeps blocks named count spent alone idle =
-    let none = unshared refl in
-    let a = alone none r.packets in
+out_worked false plan n ps qs lanes kept r keeps blocks named count spent alone idle =
+    let a = alone (inl refl) r.packets in
     record {
       packets = a.0;
       queues = a.1;
       count = omega (arith, count, r.count);
       none = r.none;
-      idle = idle none;
+      idle = idle (inl refl);
     }
 
 -- the same round, but that some of its packets went to the lanes, and some of its spares to others

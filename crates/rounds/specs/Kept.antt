@@ -53,13 +53,12 @@ pub record IsKept (keep : Bool) (taps : ℕ) (ps : List Packet) (n : ℕ) (k : K
   pub same : map packet_of k.packets.items ≡ ps
   pub size : k.blocks ≡ n
   pub held : AreHeld k.packets.items
-  pub shown : 1 ≤ taps → AreShared k.packets.items
+  pub shown : k.shared ≡ true → AreShared k.packets.items
   pub weighs : WeighAtLeast (weight_after 1) k.packets.items
   pub rising : RiseFrom 0 (map packet_of k.packets.items)
   pub fit : AllByRecursion Fits (map packet_of k.packets.items)
   pub few : counts_of k.packets.items ≤ 65536
   pub spares : home k.spares ≤ k.blocks
-  pub unshared : k.shared ≡ false → taps ≡ 0
   pub sole : keep ≡ false → taps ≡ 0 → k.shared ≡ false
   pub round : IsOneRound k.shared (k.blocks - home k.spares) k.packets.items k.kept.items
   pub clones : keep ≡ true → map packet_of_clone k.kept.items ≡ ps

@@ -79,17 +79,16 @@ fn share_if(
 }
 
 impl Bench {
-    // Whether others are to hold blocks of a round: taps, or who compares it with its clones.
-    fn is_shared(&self) -> bool
+    // Whether others are to hold blocks of a round: who compares it with its clones, or taps that don't read it here.
+    fn is_shared<W: Works>(&self, works: &W, packets: &Packets) -> bool
         ensures keep { self.now.keep ≡ true → result ≡ true }
-        ensures taps { result ≡ false → self.now.plan.taps ≡ 0 }
         ensures only { result ≡ true → (self.now.keep ≡ true) ⊎ (1 ≤ self.now.plan.taps) }
     {
-        self.keep || self.plan.taps != 0
+        self.keep || self.plan.taps != 0 && !works.reads_here(packets)
     }
 
     // Heads are shared and a clone of each packet is kept, if that is wanted.
-    fn keep_round(&mut self, round: Round) -> Result<Kept, Rest>
+    fn keep_round<W: Works>(&mut self, works: &W, round: Round) -> Result<Kept, Rest>
         requires few { round.blocks ≤ self.old.blocks }
         ensures kept { IfOk result (λ k. IsKept self.old.keep self.old.plan.taps (map packet_of round.packets)
             round.blocks k) }
@@ -105,7 +104,7 @@ impl Bench {
             spares,
             blocks,
         } = round;
-        let shared = self.is_shared();
+        let shared = self.is_shared(works, &packets);
         let mut kept = Vec::new(self.alloc);
         match share_if(shared, self.keep, &mut packets, &mut kept) {
             Ok(()) => Ok(Kept {
@@ -191,7 +190,7 @@ impl Bench {
             → IfOk result (λ _. GivesSpares (length round.spares) giver.old giver.new) }
         ensures same { self.new ≡ self.old }
     {
-        let mut kept = self.keep_round(round)?;
+        let mut kept = self.keep_round(works, round)?;
         let mut lanes = self.take_lanes();
         let before = kept.spares.home();
         swap_list(giver, &mut kept.spares);
@@ -200,6 +199,7 @@ impl Bench {
             self.alloc,
             &mut kept.packets,
             &self.plan,
+            kept.shared,
             &mut lanes,
             giver,
         );

@@ -4,7 +4,7 @@
 //!   pool ── taken, marked 0, 1, .. ──> |64|first bytes | more .. |     one record's blocks, and two spares beside
 //!    ^
 //!    ├── nobody else holds one: each goes home by itself
-//!    └── taps, or clones that are kept: a place for each mark, where the Sole that comes back goes home and a receipt
+//!    └── clones for taps, or that are kept: a place for each mark, where the Sole that comes back goes home and a receipt
 //!        waits for its Sole or is closed
 //! ```
 //!
@@ -66,7 +66,7 @@
 //! - `captured` of `merge_all`: the packets that are merged are such as a capture may hold, since each was read into
 //!   fields of 32 bits and into bytes.
 //!
-//! That they are home is told in two ways (`specs/Out.antt`). Where there are no taps and no clones are kept, each
+//! That they are home is told in two ways (`specs/Out.antt`). Where taps get no clones and none are kept, each
 //! packet alone holds its blocks from when it is read, so that as many go home as there are. Where others hold some it
 //! follows from the account alone (`specs/Marks.antt`): the blocks of a round are marked 0, 1, ..; of each mark one
 //! life is held, with all of its weight (`specs/Fresh.antt`), and no call makes weight up or loses it. All receipts of
@@ -114,7 +114,7 @@
 //!   outcome, mark or place is looked at as blocks go home. Pieces behind a head are parts by their type; each has all
 //!   the weight of its block, so its release ends the life.
 //! - **Where others are to hold blocks every head is shared at once**, before the first clone (`Packets::share_heads`):
-//!   where there are taps, and where clones are kept. So no later call of the round begins a life, and what gro, taps
+//!   where taps get clones, and where clones are kept. So no later call of the round begins a life, and what gro, taps
 //!   and rounds keep is kept for every test of lives. Else only all lives of a block together are told of, and receipts
 //!   of one mark couldn't be added. It costs one fetch-sub a block.
 //! - **What came back of such a round is kept by marks**, a place for each block of the pool: open, home, or what is

@@ -5,11 +5,11 @@ use Rattle.std.specs.List.{slice_range, slice_index_or}
 use Rattle.std.proofs.Math.Seq.{take-suc, take-length, drop-append_seam}
 use Rattle.std.proofs.lemmas.Grind.{flat_map-append}
 use Rattle.std.proofs.lemmas.Bool.Decides.{leb_tells}
-use Rattle.std.proofs.lemmas.List.{map-append, append-nil, drop-append-le, drop-take, drop_all, take-append-le, take-take, take_all, length-take-le}
+use Rattle.std.proofs.lemmas.List.{map-append, append-nil, drop-append-le, drop-take, drop_all, take-append-le, take-take, take_all}
 use Rattle.pcap_io.specs.Capture.{Packet}
 use Rattle.offload_model.specs.Written.{window_of}
 use Rattle.taps.specs.declared.texts.Span.{Span}
-use Rattle.taps.specs.Texts.{text_by, text_of, texts_of, text_at, IsWithin}
+use Rattle.taps.specs.Texts.{text_of, texts_of, text_at, IsWithin}
 
 -- each place lies in the bytes
 abbrev pub AreWithin : List ℕ → List Span → Type 0
@@ -28,9 +28,6 @@ last_range xs ys zs e =
     ∙ ap (take (length zs - length xs)) (drop-append_seam xs ys)
     ∙ ap (λ z. take z ys) n
     ∙ take-length ys
-
-pub length-range : (xs : List ℕ) (from to : ℕ) → to ≤ length xs → length (slice_range xs from to) ≡ to - from
-length-range xs from to h = length-take-le (to - from) (drop from xs) (omega (arith, length-drop from xs))
 
 pub within_more : (xs ys zs : List ℕ) (ss : List Span) (s : Span) → zs ≡ xs ++ ys → AreWithin xs ss → IsWithin zs s → AreWithin zs (ss ++ s ∷ [])
 within_more xs ys zs [] s e h w zero d l = w

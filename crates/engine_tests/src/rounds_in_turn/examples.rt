@@ -91,6 +91,7 @@ fn example_of_lanes(rt: HostRuntime) {
         alloc,
         &mut packets,
         &plan,
+        true, // heads are shared, so the tap gets clones
         &mut lanes,
         &mut None,
     ) {

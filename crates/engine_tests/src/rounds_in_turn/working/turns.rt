@@ -1,5 +1,5 @@
 //! What the lanes of two flows in turn come to.
-ghost use Rattle.std.specs.Prelude.{◌≡◌, ◌<◌, ◌≤◌, length, map, All};
+ghost use Rattle.std.specs.Prelude.{◌≡◌, ◌<◌, ◌≤◌, true, length, map, All};
 ghost use Rattle.gro.specs.Slots.{packet_of, counts_of, AreHeld, AreShared, WeighAtLeast};
 ghost use Rattle.lanes.specs.Clones.{weight_after};
 ghost use Rattle.lanes.specs.Lanes.{IsMerged};
@@ -25,11 +25,12 @@ fn worked<W: Works>(
     alloc: Global,
     packets: Packets,
     plan: &LanePlan,
+    shared: bool,
     works: &mut W,
 ) -> Lanes
     requires plan { IsPlan plan.now }
     requires held { AreHeld packets.items }
-    requires shared { 1 ≤ plan.now.taps → AreShared packets.items }
+    requires shared { shared ≡ true → 1 ≤ plan.now.taps → AreShared packets.items }
     requires weighs { WeighAtLeast (weight_after 1) packets.items }
     requires rising { RiseFrom 0 (map packet_of packets.items) }
     requires few { counts_of packets.items ≤ 65536 }
@@ -37,10 +38,16 @@ fn worked<W: Works>(
 {
     let mut packets = packets;
     let mut lanes = Lanes::new(alloc);
-    work_packets(works, alloc, &mut packets, plan, &mut lanes, &mut None).expect(
-        rt,
-        "there is memory",
-    );
+    work_packets(
+        works,
+        alloc,
+        &mut packets,
+        plan,
+        shared,
+        &mut lanes,
+        &mut None,
+    )
+    .expect(rt, "there is memory");
     packets.discard();
     lanes
 }
@@ -55,7 +62,7 @@ pub(crate) fn lanes_of<W: Works>(
     requires plan { IsPlan plan.now }
     ensures merged { All IsMerged result.queues.items }
 {
-    worked(rt, alloc, in_turn(rt, alloc), plan, works)
+    worked(rt, alloc, in_turn(rt, alloc), plan, true, works)
 }
 
 // The same by the thread that calls.
@@ -235,7 +242,14 @@ fn unshared_by(rt: &impl Abort, alloc: Global, queues: u32) -> (bool, usize)
 {
     let plan = plain(queues, 0, 64);
     let packets = unshared(rt, alloc);
-    let lanes = worked(rt, alloc, packets, &plan, &mut Alone { gate: &NoGate });
+    let lanes = worked(
+        rt,
+        alloc,
+        packets,
+        &plan,
+        true,
+        &mut Alone { gate: &NoGate },
+    );
     (are_unshared(&lanes), all_home(rt, lanes))
 }
 
@@ -261,6 +275,26 @@ impl Gate for Count {
     }
 }
 
+/// Taps read packets where they lie: nobody shares a block in the lanes, and each lane passes the gate twice.
+#[test]
+fn read_where_they_lie(rt: HostRuntime) {
+    let alloc = rt.alloc();
+    let gate = Count {
+        passes: AtomicU32::new(0),
+    };
+    let lanes = worked(
+        &rt,
+        alloc,
+        unshared(&rt, alloc),
+        &plain(2, 2, 64),
+        false,
+        &mut Alone { gate: &gate },
+    );
+    let passes = gate.passes.load(Ordering::SeqCst);
+    let seen = (are_two_and_two(&lanes), are_unshared(&lanes), passes);
+    assert_eq!(rt; (seen, all_home(&rt, lanes)), ((true, true, 8), 8));
+}
+
 /// All lanes in one thread, each passing the gate twice, over packets of which a clone is kept: each is cloned nine
 /// times.
 #[test]
@@ -273,7 +307,7 @@ fn kept_and_alone(rt: HostRuntime) {
         passes: AtomicU32::new(0),
     };
     let plan = plain(2, 8, 64);
-    let lanes = worked(&rt, alloc, packets, &plan, &mut Alone { gate: &gate });
+    let lanes = worked(&rt, alloc, packets, &plan, true, &mut Alone { gate: &gate });
     let are_so = [
         says(&lanes, 0, &[(0, 4, 16)]),
         says(&lanes, 1, &[(1, 4, 16)]),

@@ -33,7 +33,7 @@ returns-in_err-fill_tap-clause-after c =
     (after_both (l.i + 1) (l.i + 2) old l.packets.items c.fill_tap.new.packets.items l.invariant.after c.in_err-fill_tap.ensures.after)
 
 pub returns-in_err-fill_tap-clause-serves : goal.returns-in_err-fill_tap-clause-serves
-returns-in_err-fill_tap-clause-serves c =
+returns-in_err-fill_tap-clause-serves c = λ plan.
     let l = c.loop-i in
     let i = l.invariant in
     let d = c.index-lanes-i.result in
@@ -47,7 +47,7 @@ returns-in_err-fill_tap-clause-serves c =
       kept = tap_keeps l.i old mid now l.lanes d m (omega arith) idle i.kept e.kept;
       blocks = tap_blocks l.i old mid now l.lanes d m (omega arith) idle i.blocks e.blocks;
       ready = all_set IsTapReady l.lanes l.i m i.ready e.ready;
-      clones = search rules;
+      served = search rules;
       size = length-set l.lanes l.i m ∙ i.size;
     }
 
@@ -75,13 +75,13 @@ pub returns-clause-after : goal.returns-clause-after
 returns-clause-after c = after_later (c.loop-i.i + 1) 9 c.args.packets.now.items c.loop-i.packets.items (omega arith) c.loop-i.invariant.after
 
 pub returns-clause-serves : goal.returns-clause-serves
-returns-clause-serves c =
+returns-clause-serves c = λ plan.
     let l = c.loop-i in
     let i = l.invariant in
     record {
       kept = i.kept;
       blocks = i.blocks;
       ready = i.ready;
-      clones = each_placed (HasClones (map packet_of c.args.packets.now.items)) l.lanes (λ k d lt. i.clones k d (omega (arith, lt, i.size, c.loop-i-test.false)) lt);
+      served = each_placed (HasClones (map packet_of c.args.packets.now.items)) l.lanes (λ k d lt. i.clones k d (omega (arith, lt, i.size, c.loop-i-test.false)) lt);
       size = i.size;
     }

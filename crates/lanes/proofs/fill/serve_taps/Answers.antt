@@ -1,12 +1,16 @@
-use Rattle.lanes.proofs.Adding.{same_after}
-use Rattle.std.proofs.Common.{length, sym, ◌∙◌}
-use Rattle.std.proofs.lemmas.Bool.{eqb-true}
-use Rattle.lanes.proofs.Idle.{none_served}
+use Rattle.std.proofs.Common.{sym, subst, Bool}
+use Rattle.lanes.specs.Filling.{Serves}
+use Rattle.lanes.proofs.Reading.{all_read}
 use Rattle.lanes.proofs.fill.serve_taps.Goals as goal
 
-pub returns-clause-same : goal.returns-clause-same
-returns-clause-same c = same_after 9 c.args.packets.now.items c.fill_taps.new.packets.items c.fill_taps.ensures.after
+pub returns-then-shared-clause-serves : goal.returns-then-shared-clause-serves
+returns-then-shared-clause-serves g c =
+    let e = c.clone_for_taps in
+    subst (λ (z : Bool). Serves z c.args.plan.now c.args.packets.now.items e.new.packets.items c.args.lanes.now e.new.lanes e.result) (sym c.if-shared.true) (e.ensures.serves c.args.plan.now)
 
-pub returns-then-is_empty-clause-serves : goal.returns-then-is_empty-clause-serves
-returns-then-is_empty-clause-serves c =
-    none_served c.args.packets.now.items c.args.lanes.now tt (eqb-true (length c.args.lanes.now) 0 (sym c.is_empty.ensures ∙ c.if-is_empty.true))
+pub returns-clause-serves : goal.returns-clause-serves
+returns-clause-serves g c =
+    let e = c.read_taps in
+    let ps = c.args.packets.now.items in
+    subst (λ (z : Bool). Serves z c.args.plan.now ps ps c.args.lanes.now e.new.lanes e.result) (sym c.if-shared.false)
+    (all_read c.args.plan.now ps c.args.lanes.now e.new.lanes e.result e.ensures.idle e.ensures.size e.ensures.read)

@@ -14,11 +14,11 @@ use Rattle.lanes.proofs.Whole.{all_filled, blocks_given, is_given_up}
 use Rattle.lanes.proofs.round.begin.Goals as goal
 
 pub returns-in-Ok-clause-ready : goal.returns-in-Ok-clause-ready
-returns-in-Ok-clause-ready c =
+returns-in-Ok-clause-ready g c =
     record { queues = all_filled (spread_of c.args.plan.now) (map packet_of c.args.packets.now.items) c.fill.new.lanes.queues.items c.in-Ok.ensures.queues; taps = c.in-Ok.ensures.ready }
 
 pub check_soles-requires : goal.check_soles-requires
-check_soles-requires c =
+check_soles-requires g c =
     let old = of_packets c.args.packets.now.items in
     let now = of_packets c.fill.new.packets.items in
     let ls = c.fill.new.lanes in
@@ -33,13 +33,13 @@ check_soles-requires c =
     }
 
 pub returns-in-Err-clause-refused : goal.returns-in-Err-clause-refused
-returns-in-Err-clause-refused c =
+returns-in-Err-clause-refused g c =
     let ls = c.fill.new.lanes in
     let ws = c.give_all_up.new.lanes in
     let m = c.check_soles.new.lanes in
     let same = c.check_soles.ensures.same in
     let g = c.give_all_up.ensures in
-    subst (λ (z : List Held). IsRefused c.args.plan.now c.args.packets.now.items z m) (ap (λ (t : PacketsState). t.items) (sym same.0))
-    (is_given_up c.args.plan.now c.args.packets.now.items c.fill.new.packets.items ls m c.deref_mut.result.now ws (ap (λ (z : Lanes). z.queues.items) same.1)
+    subst (λ (z : List Held). IsRefused c.args.shared c.args.plan.now c.args.packets.now.items z m) (ap (λ (t : PacketsState). t.items) (sym same.0))
+    (is_given_up c.args.shared c.args.plan.now c.args.packets.now.items c.fill.new.packets.items ls m c.deref_mut.result.now ws (ap (λ (z : Lanes). z.queues.items) same.1)
     (ap (λ (z : Lanes). z.taps.items) same.1 ∙ refilled ls.taps.len ws ls.taps.items (omega (arith, c.give_all_up.auto.lanes, ap length c.deref_mut.ensures.value)) (omega (arith, ls.taps.ok)))
     c.deref_mut.ensures.value c.in-Err.ensures.fills g.kept g.blocks g.none g.idle)

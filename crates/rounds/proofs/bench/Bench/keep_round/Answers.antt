@@ -10,13 +10,13 @@ use Rattle.rounds.proofs.Keeping.{are_kept, at_count, out_idle}
 use Rattle.rounds.proofs.bench.Bench.keep_round.Goals as goal
 
 pub share_if-requires-clause-laid : goal.share_if-requires-clause-laid
-share_if-requires-clause-laid c = c.round.invariant.0.laid
+share_if-requires-clause-laid g c = c.round.invariant.0.laid
 
 pub share_if-requires-clause-read : goal.share_if-requires-clause-read
-share_if-requires-clause-read c = c.round.invariant.0.read
+share_if-requires-clause-read g c = c.round.invariant.0.read
 
 pub invariant_of-result : goal.invariant_of-result
-invariant_of-result c =
+invariant_of-result g c =
     let r = c.round.inside in
     let v = c.round.invariant in
     let s = c.is_shared-shared.result in
@@ -28,7 +28,7 @@ invariant_of-result c =
     )
 
 pub returns-in-Ok-clause-kept : goal.returns-in-Ok-clause-kept
-returns-in-Ok-clause-kept c =
+returns-in-Ok-clause-kept g c =
     let r = c.round.inside in
     let v = c.round.invariant in
     let e = c.in-Ok.ensures in
@@ -38,11 +38,11 @@ returns-in-Ok-clause-kept c =
     subst (λ (z : RoundState). IsKept b.keep b.plan.taps (map packet_of z.packets) z.blocks k) c.round.view_is
     (are_kept b.keep b.plan.taps r.blocks r.packets.items k refl v.0.count v.0.captured v.1
     (omega (arith, c.requires.few, c.self.invariant.0, ap (λ (b : BenchState). b.blocks) c.self.view_is, ap (λ (r : RoundState). r.blocks) c.round.view_is))
-    s.ensures.taps s.ensures.only e.prepared
+    s.ensures.only e.prepared
     (λ keep. e.all (ap (λ (b : BenchState). b.keep) c.self.view_is ∙ keep)))
 
 pub returns-in-Err-clause-named_back : goal.returns-in-Err-clause-named_back
-returns-in-Err-clause-named_back c = λ h.
+returns-in-Err-clause-named_back g c = λ h.
     let lanes = c.take_lanes in
     let view = ap (λ (z : RoundState). weights_of z h) c.round.view_is in
     omega (arith, view, c.in-Err.ensures.prepared.named h, idle_weighed h lanes.result.queues.items lanes.ensures.idle.0)

@@ -16,11 +16,7 @@ use Rattle.rounds.proofs.Lending.{gives_spares, leaves_no_spare, of_worked, on_o
 use Rattle.rounds.proofs.bench.Bench.work.Goals as goal
 
 pub work_packets-done-requires-clause-shared : goal.work_packets-done-requires-clause-shared
-work_packets-done-requires-clause-shared g c =
-    let ps = map packet_of c.args.round.packets in
-    let is = subst (λ (s : BenchState). IsKept c.args.self.now.keep s.plan.taps ps c.args.round.blocks c.in_ok-kept.kept)
-    (sym (c.self.view_is ∙ c.take_lanes-lanes.ensures.same ∙ c.in_ok-kept.ensures.same)) c.in_ok-kept.ensures.kept in
-    is.shown
+work_packets-done-requires-clause-shared g c = λ shared some. c.in_ok-kept.ensures.kept.shown shared
 
 pub overflow_sub-kept : goal.overflow_sub-kept
 overflow_sub-kept g c =
@@ -47,7 +43,7 @@ settle-requires g c =
             count = omega (arith, gone.fewer, is.spares, c.home.ensures.home, c.home-before.ensures.home);
           })
           w.result w.new.lanes w.ensures.lanes w.ensures.windows w.ensures.merged w.ensures.packets w.ensures.all
-          (out_worked k.shared plan.taps (k.blocks - home k.spares) k.packets.items w.new.packets.items w.new.lanes k.kept.items is.unshared is.round w.ensures.kept w.ensures.blocks
+          (out_worked k.shared plan (k.blocks - home k.spares) k.packets.items w.new.packets.items w.new.lanes k.kept.items is.round w.ensures.kept w.ensures.blocks
           w.ensures.named w.ensures.count w.ensures.clones w.ensures.alone w.ensures.idle);
     }
 
