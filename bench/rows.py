@@ -195,10 +195,12 @@ def small_records(name):
         return [(1, 0, segment(40000 + i % 4, 1000, 2000 + i, 100 + i, b"")) for i in range(256)]
     if name == "one flow":
         return [(1, 0, segment(40000, 1000 + 34 * i, 1, 100 + i, small_payload(i))) for i in range(256)]
+    if name == "64 small flows by 16":  # each burst is one merged record, in rounds of 64 and of 1,024
+        return [(1, 0, segment(40000 + i, 1000 + 34 * j, 1, 100 + j, small_payload(j))) for i in range(64) for j in range(16)]
     return [(1, 0, segment(40000 + i, 1000, 1, 100, small_payload(i))) for i in range(64)]
 
 
-SMALL = ("cut", "ACKs", "one flow", "64 flows", "4,096 small flows", "4,096 small flows that collide")
+SMALL = ("cut", "ACKs", "one flow", "64 flows", "4,096 small flows", "4,096 small flows that collide", "64 small flows by 16")
 
 
 def make(name, sample, size, folder):
@@ -266,7 +268,7 @@ def merging(walk):
     found = [Group(title, beside(walk, name) + [merges("`offload merge`", name)], BESIDE, main=True) for name, title in titles.items()]
     layouts = ("1,514 bytes", "4,096 flows in turn", "4,096 flows by 8", *SAMPLES)
     found.append(Group("merging by flows and layouts", [merges(f"merge, {name}", name) for name in layouts], ("merge, 1,514 bytes",), main=True))
-    many = [merges(f"merge --budget 4096 --blocks 16384, {name}", name, "--budget", "4096", "--blocks", "16384") for name in SMALL[4:]]
+    many = [merges(f"merge --budget 4096 --blocks 16384, {name}", name, "--budget", "4096", "--blocks", "16384") for name in SMALL[4:6]]
     found.append(Group("merging 100-byte segments of 4,096 flows, and of 4,096 whose hashes are equal", many, (many[0].name,)))
     kinds = [merges(f"merge, {name}", name) for name in FULL]
     # Of 45 segments a merged frame has 65,535 bytes at most, of 180 almost 262,144.
@@ -291,12 +293,15 @@ def by_options():
     options = [("--budget", str(budget)) for budget in (16, 256, 1024)] + [("--budget", "4096", "--blocks", "16384"), ("--blocks", "384"), ("--blocks", "65536")]
     found = [Group("merging by options, 1,514-byte frames", merge_lines("1,514 bytes", (), *options), ("merge",))]
     # Of four queues the sample's flows have one, and those that are made of it have all.
-    lanes = {"64 flows in turn": (("--queues", "4"), ("--taps", "1"), ("--taps", "8"), ("--queues", "4", "--taps", "2"))}
+    four = (("--queues", "4"), ("--taps", "1"), ("--taps", "8"), ("--queues", "4", "--taps", "2"))
+    lanes = {"64 flows in turn": four, "64 flows": four}
     lanes |= {"1,514 bytes": (("--taps", "1"), ("--taps", "8"), ("--queues", "4")), "4,096 flows by 8": (("--queues", "4"),)}
     for name, own in lanes.items():
         runs = merge_lines(name, *(budget + lane for budget in ((), ("--budget", "1024")) for lane in ((), *own)))
-        found.append(Group(f"merging over queues and taps, {name}", runs, ("merge", "merge --budget 1024")))
-    return found
+        titled = f"{name} of 100 bytes" if name in SMALL else name
+        found.append(Group(f"merging over queues and taps, {titled}", runs, ("merge", "merge --budget 1024")))
+    runs = merge_lines("64 small flows by 16", (), ("--budget", "1024"))
+    return [*found, Group("merging 100-byte segments of 64 flows in bursts of 16, by the budget", runs, ("merge",))]
 
 
 def growth():
