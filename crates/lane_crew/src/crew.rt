@@ -12,7 +12,7 @@ use block_pool::Giver;
 use crossbeam_queue::ArrayQueue;
 use errands::{Asker, Bells, Crew, Errands, Job, Naming, Reply, Runner, Works as DoesTasks, serve};
 use gro::Packets;
-use lanes::{LanePlan, Lanes, SOME_PACKETS, Works, give_back, run_and_give};
+use lanes::{FrameLengths, LanePlan, Lanes, Works, give_back, run_and_give};
 use off_io::{Gate, Who};
 use std::alloc::{AllocError, Global};
 use std::collections::VecDeque;
@@ -155,9 +155,11 @@ impl<G: Gate, N: Naming, R: Wait> Works for LaneCrew<'_, '_, G, N, R> {
 
     ghost gives = { true };
 
-    // A clone for each tap costs more than its windows, in whichever thread these are read.
+    // Lanes of short frames are all worked here, so there a clone for a tap would serve nobody.
     fn reads_here(&self, packets: &Packets) -> bool {
-        packets.len() >= SOME_PACKETS
+        let mut lengths = FrameLengths::new();
+        lengths.add(packets);
+        lengths.are_short()
     }
 
     fn pass(&self, tap: u32, point: u32) {

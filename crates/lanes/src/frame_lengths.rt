@@ -5,8 +5,8 @@ use gro::Packets;
 /// Frames are short below so many bytes on average.
 const SHORT_FRAME: usize = 1024;
 
-/// Fewer packets say little of those behind them, and who works them takes little of a run's time.
-pub const SOME_PACKETS: usize = 16;
+/// Fewer packets say little of those behind them.
+const SOME_PACKETS: usize = 16;
 
 /// How many packets there are, and how many bytes their frames have together.
 #[derive(Clone, Copy)]

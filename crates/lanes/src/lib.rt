@@ -155,7 +155,7 @@ mod soles;
 mod working;
 mod works;
 
-pub use frame_lengths::{FrameLengths, SOME_PACKETS, have_short_frames};
+pub use frame_lengths::{FrameLengths, have_short_frames};
 pub use free::{free_queue, free_tap};
 pub use giving::give_back;
 pub use keep::keep_packets;
