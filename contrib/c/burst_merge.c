@@ -1,6 +1,7 @@
 /* Merges a capture of Ethernet frames (classic pcap, link type 1, in this machine's byte order) burst by burst, and writes what `offload merge
- * --budget N --segs M` writes: burst_merge N M <from.pcap >to.pcap. Ends with the status of the first burst that isn't merged, 3 where the
- * capture is cut short or has other bytes at its front. */
+ * --budget N --segs M` writes: burst_merge N M [HOW] <from.pcap >to.pcap. HOW is `engine` where one engine merges all bursts, or `frames` where it
+ * receives them frame by frame. Ends with the status of the first burst that isn't merged, 3 where the capture is cut short or has other bytes
+ * at its front. */
 #include "offload_burst.h"
 #include <stdio.h>
 #include <stdlib.h>
@@ -62,7 +63,20 @@ static void put_run(const struct offload_run *run, const struct offload_frame *f
         fwrite(frames[at].bytes + run->headers_length, 1, frames[at].length - run->headers_length, stdout);
 }
 
+/* One burst as it is asked for. */
+static uint32_t merge(const char *how, struct offload_gro *gro, uint32_t segs, const struct offload_frame *frames, size_t some, uint32_t *next,
+                      struct offload_run *runs, size_t room, size_t *count) {
+    uint32_t status = OFFLOAD_BURST_OK;
+    if (!strcmp(how, "engine")) return offload_gro_merge(gro, frames, some, next, room, runs, room, count);
+    if (strcmp(how, "frames")) return offload_gro_burst(segs, frames, some, next, room, runs, room, count);
+    *count = 0;
+    for (size_t i = 0; i < some && status == OFFLOAD_BURST_OK; i++) status = offload_gro_receive(gro, frames, i + 1);
+    return status == OFFLOAD_BURST_OK ? offload_gro_flush(gro, frames, some, next, room, runs, room, count) : status;
+}
+
 int main(int count_of_words, char **words) {
+    const char *how = count_of_words > 3 ? words[3] : "burst";
+    struct offload_gro gro = {0};
     size_t budget = count_of_words > 1 ? strtoul(words[1], NULL, 10) : 64, length;
     uint32_t segs = count_of_words > 2 ? (uint32_t)strtoul(words[2], NULL, 10) : 4096;
     uint8_t *in = read_all(&length);
@@ -71,16 +85,17 @@ int main(int count_of_words, char **words) {
     struct offload_frame *frames = room_for(length / 16, sizeof *frames);
     struct stamp *stamps = room_for(length / 16, sizeof *stamps);
     struct offload_run *runs = room_for(budget, sizeof *runs);
-    uint32_t *next = room_for(budget, sizeof *next), status = OFFLOAD_BURST_OK;
+    uint32_t *next = room_for(budget, sizeof *next), status = offload_gro_new(&gro, (uint32_t)budget, segs);
     size_t all = find_frames(in, length, frames, stamps);
     memcpy(in + 16, &snap, sizeof snap);
     memcpy(in + 20, &link, sizeof link);
     fwrite(in, 1, 24, stdout);
     for (size_t i = 0; i < all && status == OFFLOAD_BURST_OK; i += budget) {
         size_t some = all - i < budget ? all - i : budget, count;
-        status = offload_gro_burst(segs, frames + i, some, next, budget, runs, budget, &count);
+        status = merge(how, &gro, segs, frames + i, some, next, runs, budget, &count);
         for (size_t j = 0; j < count; j++) put_run(&runs[j], frames + i, stamps + i, next);
     }
+    offload_gro_free(&gro);
     free(in), free(frames), free(stamps), free(runs), free(next);
     return (int)status;
 }

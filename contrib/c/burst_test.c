@@ -1,4 +1,4 @@
-/* What a caller sees of offload_gro_burst; ends with 0 where all holds. Linked with --wrap=malloc and --wrap=realloc, so that each growth of
+/* What a caller sees of offload_gro_burst and of engines; ends with 0 where all holds. Linked with --wrap=malloc and --wrap=realloc, so that each growth of
  * memory can be refused in turn. burst_test PAIRS tries so many pairs of random frames. */
 #include "offload_burst.h"
 #include <pthread.h>
@@ -217,6 +217,118 @@ static void threads(void) {
     }
 }
 
+/* ---- engines */
+
+/* What an engine makes of all frames of `burst`, by a flush or as a burst: it asks for no memory, nor does it where it receives. */
+static uint32_t made_by(struct offload_gro *gro, int is_flush, struct burst *burst) {
+    memset(burst->next, FILL, sizeof burst->next);
+    memset(burst->runs, FILL, sizeof burst->runs);
+    burst->made = 99;
+    left = 0;
+    uint32_t told = (is_flush ? offload_gro_flush : offload_gro_merge)(gro, burst->frames, burst->count, burst->next, burst->next_count, burst->runs,
+                                                                       burst->runs_count, &burst->made);
+    check(left == 0, "an engine that asks for memory");
+    left = -1;
+    return told;
+}
+
+static uint32_t received(struct offload_gro *gro, const struct offload_frame *frames, size_t count) {
+    left = 0;
+    uint32_t told = offload_gro_receive(gro, frames, count);
+    check(left == 0, "an engine that asks for memory as it receives");
+    left = -1;
+    return told;
+}
+
+static void not_made(struct offload_gro *gro, int is_flush, struct burst burst, uint32_t status, const char *what) {
+    uint32_t told = made_by(gro, is_flush, &burst);
+    check(told == status && burst.made == 0 && is_filled(burst.next, sizeof burst.next) && is_filled(burst.runs, sizeof burst.runs), what);
+}
+
+static void is_as_burst(uint32_t told, struct burst burst, const char *what) {
+    struct burst other = burst;
+    uint32_t wanted_told = call(&other);
+    check(told == wanted_told && burst.made == other.made && !memcmp(burst.next, other.next, sizeof other.next), what);
+    check(!memcmp(burst.runs, other.runs, sizeof other.runs), what);
+}
+
+static void no_engine(struct burst lawful) {
+    struct offload_gro gro = {0};
+    offload_gro_free(&gro);
+    check(offload_gro_receive(&gro, lawful.frames, 1) == OFFLOAD_BURST_USAGE, "nothing is received without an engine");
+    not_made(&gro, 0, lawful, OFFLOAD_BURST_USAGE, "nothing is merged without an engine");
+    not_made(&gro, 1, lawful, OFFLOAD_BURST_USAGE, "nothing is flushed without an engine");
+    check(offload_gro_new(&gro, 65536, 64) == OFFLOAD_BURST_USAGE && !gro.made, "an engine for 65,536 frames");
+    check(offload_gro_new(&gro, 4, 0) == OFFLOAD_BURST_USAGE && !gro.made, "an engine for runs of 0");
+    check(offload_gro_new(&gro, 4, 4097) == OFFLOAD_BURST_USAGE && !gro.made, "an engine for runs of 4097");
+    check(offload_gro_new(&gro, 65535, 4096) == OFFLOAD_BURST_OK && gro.made, "an engine for 65,535 frames");
+    check(offload_gro_new(&gro, 4, 64) == OFFLOAD_BURST_USAGE && gro.made, "an engine in the place of one");
+    offload_gro_free(&gro);
+    check(!gro.made && !gro.at, "an engine that was ended");
+}
+
+static void engines(struct offload_frame *two) {
+    struct offload_frame third = two[1], three[3];
+    third.number = 2;
+    memcpy(three, two, 2 * sizeof *two);
+    three[2] = third;
+    struct burst burst = {64, two, 2, 4, 4, {0}, {{0}}, 0}, long_one = {64, three, 3, 4, 4, {0}, {{0}}, 0};
+    struct offload_gro gro = {0};
+    no_engine(burst);
+    check(offload_gro_new(&gro, 2, 64) == OFFLOAD_BURST_OK, "an engine");
+    for (int i = 0; i < 3; i++) is_as_burst(made_by(&gro, 0, &burst), burst, "a burst by an engine");
+    not_made(&gro, 0, long_one, OFFLOAD_BURST_FULL, "a longer burst than the engine was made for");
+    for (int i = 0; i < 3; i++) {
+        check(received(&gro, two, 1) == OFFLOAD_BURST_OK && received(&gro, two, 2) == OFFLOAD_BURST_OK, "frames one by one");
+        check(received(&gro, two, 2) == OFFLOAD_BURST_OK, "no frame more");
+        check(received(&gro, two, 1) == OFFLOAD_BURST_USAGE, "a list that is shorter");
+        check(received(&gro, three, 3) == OFFLOAD_BURST_FULL, "a frame more than it was made for");
+        not_made(&gro, 0, burst, OFFLOAD_BURST_USAGE, "a burst by an engine that has received frames");
+        not_made(&gro, 1, long_one, OFFLOAD_BURST_USAGE, "a flush of a longer list");
+        burst.next_count = 1;
+        not_made(&gro, 1, burst, OFFLOAD_BURST_NO_ROOM, "a flush without room");
+        burst.next_count = 4;
+        is_as_burst(made_by(&gro, 1, &burst), burst, "a flush");
+        burst.count = 0;
+        is_as_burst(made_by(&gro, 1, &burst), burst, "a flush of nothing");
+        burst.count = 2;
+    }
+    three[1].number = 0;
+    check(received(&gro, three, 1) == OFFLOAD_BURST_OK && received(&gro, three, 2) == OFFLOAD_BURST_USAGE, "a number that doesn't rise");
+    for (uint32_t refusals = 0, told = OFFLOAD_BURST_NO_MEMORY; told != OFFLOAD_BURST_OK; refusals++) {
+        offload_gro_free(&gro);
+        left = refusals;
+        told = offload_gro_new(&gro, 64, 64);
+        left = -1;
+        check(told == OFFLOAD_BURST_OK || (told == OFFLOAD_BURST_NO_MEMORY && !gro.made), "an engine without memory");
+    }
+    offload_gro_free(&gro);
+}
+
+static struct offload_gro handed;
+
+static void *flusher(void *failed) {
+    static struct offload_run runs[FRAMES];
+    uint32_t next[FRAMES];
+    size_t made;
+    uint32_t told = offload_gro_flush(&handed, sent, FRAMES, next, FRAMES, runs, FRAMES, &made);
+    *(int *)failed = told != OFFLOAD_BURST_OK || made != wanted_count || memcmp(runs, wanted, sizeof wanted);
+    offload_gro_free(&handed);
+    return NULL;
+}
+
+/* An engine that has received frames on one thread, flushed and ended by another. */
+static void handed_over(void) {
+    pthread_t thread;
+    int failed = 1;
+    check(offload_gro_new(&handed, FRAMES, 64) == OFFLOAD_BURST_OK, "an engine for 200");
+    for (size_t i = 7; i < FRAMES; i += 7) check(offload_gro_receive(&handed, sent, i) == OFFLOAD_BURST_OK, "seven frames more");
+    check(offload_gro_receive(&handed, sent, FRAMES) == OFFLOAD_BURST_OK, "all frames");
+    if (pthread_create(&thread, NULL, flusher, &failed)) exit(1);
+    pthread_join(thread, NULL);
+    check(!failed, "another thread flushes what this one has received");
+}
+
 int main(int count_of_words, char **words) {
     static uint8_t first[154], second[154], long_frame[MOST_FRAME + 1];
     size_t length = put_frame(first, 1000, 5, 100), other = put_frame(second, 1100, 6, 50);
@@ -226,5 +338,7 @@ int main(int count_of_words, char **words) {
     without_memory(two);
     random_pairs(two, count_of_words > 1 ? atol(words[1]) : 300000);
     threads();
+    engines(two);
+    handed_over();
     return wrong;
 }

@@ -1,5 +1,5 @@
-/* offload_burst.h: a burst of frames, merged where they lie: no frame is moved, and no payload copied. Linked from liboffload_burst.a, which
- * has this call alone.
+/* offload_burst.h: frames merged where they lie: no frame is moved, and no payload copied. A burst at once, or by an engine that is kept, whose
+ * memory is taken once. Linked from liboffload_burst.a.
  *
  * It is proved for callers that keep the rules below, and docs/PROVED.md says what of it. Nothing checks a C caller: where a rule is broken
  * the behaviour is undefined. Numbers have no rules: each is tested, and a wrong one is answered OFFLOAD_BURST_USAGE.
@@ -11,8 +11,12 @@
  *  - malloc, realloc and free are of one allocator, and malloc aligns to 16.
  *  - No call from a signal handler, nor in the child of a fork of a process that has threads.
  *
- * A call prints nothing, starts no thread, takes no lock, and keeps no pointer after it has returned; what it took of malloc it has given
- * back. Several threads may call at once where what is written by each is its own.
+ *  - A struct offload_gro is filled with zeros before its first call, and is then only what calls made of it. It isn't copied and both used.
+ *  - Frames that an engine has received stay as they are, at the front of the list that is passed, until its next flush or free.
+ *
+ * A call prints nothing, starts no thread, takes no lock, and keeps no pointer to a frame after it has returned; what it took of malloc it has
+ * given back, but for what an engine keeps until it is freed. Several threads may call at once where what is written by each is its own, its
+ * engine too. An engine may go from thread to thread, by a lock or the start or the end of a thread.
  */
 #ifndef OFFLOAD_BURST_H
 #define OFFLOAD_BURST_H
@@ -28,6 +32,7 @@ extern "C" {
 enum offload_burst_status {
     OFFLOAD_BURST_OK = 0,        /* the first *count of `runs` are what the frames come to */
     OFFLOAD_BURST_USAGE = 2,     /* a number or a frame isn't as it has to be; nothing was written, *count is 0 */
+    OFFLOAD_BURST_FULL = 4,      /* more frames than the engine was made for; nothing was written, *count is 0 */
     OFFLOAD_BURST_NO_MEMORY = 7, /* malloc refused; nothing was written, *count is 0 */
     OFFLOAD_BURST_NO_ROOM = 9    /* `next` or `runs` has fewer entries than there are frames; nothing was written, *count is 0 */
 };
@@ -66,6 +71,35 @@ struct offload_run {
  * once; and cutting a merged frame into its n segments gives its frames back, byte for byte and in order. */
 uint32_t offload_gro_burst(uint32_t segs, const struct offload_frame *frames, size_t frames_count, uint32_t *next, size_t next_count,
                            struct offload_run *runs, size_t runs_count, size_t *count);
+
+/* An engine, or none where it is all zeros. Its members are the library's own. */
+struct offload_gro {
+    void *at;
+    uint8_t made;
+};
+
+/* An engine for at most `frames` (0 to 65,535) between two flushes, in runs of at most `segs` (1 to 4096), where there is none yet. All memory
+ * that it takes it takes here: some 2,700 bytes and 200 a frame. 0, USAGE or NO_MEMORY. */
+uint32_t offload_gro_new(struct offload_gro *gro, uint32_t frames, uint32_t segs);
+
+/* A burst as by offload_gro_burst, by the memory of an engine that has received nothing since its last flush: the call for who merges burst after
+ * burst. Also FULL; USAGE where there is no engine, or it has received frames. */
+uint32_t offload_gro_merge(struct offload_gro *gro, const struct offload_frame *frames, size_t frames_count, uint32_t *next, size_t next_count,
+                           struct offload_run *runs, size_t runs_count, size_t *count);
+
+/* Frames as they come: of a list, those that the engine hasn't received since its last flush; the others stand at its front, as they were. Where
+ * it isn't OK none of them is received. FULL where the list is longer than the engine was made for, so that it is to be flushed first; USAGE where
+ * the list is shorter than what was received, or there is no engine. It takes no memory. */
+uint32_t offload_gro_receive(struct offload_gro *gro, const struct offload_frame *frames, size_t frames_count);
+
+/* What the frames come to that the engine has received since its last flush, as offload_gro_burst says it of the whole list, in however many calls
+ * they came. On OK the engine has received none then, and the frames are the caller's again; else it has what it had. NO_ROOM; USAGE where these
+ * are more or fewer frames than it has received, or there is no engine. */
+uint32_t offload_gro_flush(struct offload_gro *gro, const struct offload_frame *frames, size_t frames_count, uint32_t *next, size_t next_count,
+                           struct offload_run *runs, size_t runs_count, size_t *count);
+
+/* Ends an engine, whatever it has received: the struct is all zeros then, and may be made an engine again. */
+void offload_gro_free(struct offload_gro *gro);
 
 #ifdef __cplusplus
 }

@@ -4,17 +4,10 @@ ghost use Rattle.std.specs.List.{AllByRecursion};
 ghost use Rattle.frame_runs.specs.Lent.{packet_of};
 ghost use Rattle.frame_bursts.specs.Burst.{AreLawful, HasRoom, Merges, ComesBack, frames_of};
 
-use frame_bursts::{BurstRun, Refused, merge_burst};
+use crate::codes::{OK, code_of};
+use frame_bursts::{BurstRun, merge_burst};
 use frame_runs::Lent;
 use std::alloc::Global;
-
-const OK: u32 = 0;
-
-const USAGE: u32 = 2;
-
-const NO_MEMORY: u32 = 7;
-
-const NO_ROOM: u32 = 9;
 
 /// Merges frames where they lie, into runs of at most `segs` (1 to 4096).
 ///
@@ -49,8 +42,6 @@ pub extern "C" fn offload_gro_burst(
             *count = n;
             OK
         }
-        Err(Refused::Usage) => USAGE,
-        Err(Refused::NoMemory) => NO_MEMORY,
-        Err(Refused::NoRoom) => NO_ROOM,
+        Err(refused) => code_of(refused),
     }
 }

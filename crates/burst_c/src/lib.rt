@@ -1,7 +1,9 @@
-//! Bursts of frames for C: merged where they lie. `contrib/c/offload_burst.h` declares what is exported.
+//! Frames for C, merged where they lie: a burst at once, or by an engine that C keeps. `contrib/c/offload_burst.h`
+//! declares what is exported.
 //!
-//! The export has no `requires`: each number is tested and answered. A C caller owes what the header says, and nothing
-//! checks that it keeps it. No state is kept: two calls have nothing in common.
+//! But for one rule the exports have no `requires`: each number is tested and answered. The rule is of engines, that the
+//! frames they have received stand in the list as they were (`holds`). A C caller owes what the header says, and nothing
+//! checks that it keeps it.
 //!
 //! Proved, of [`offload_gro_burst`]:
 //!
@@ -11,16 +13,41 @@
 //!   and a list too short. `codes`: else it is 0 or 7.
 //! - `untouched`: but on 0 nothing is written, and `count` is 0. `sizes`: the lists stay as long as they are.
 //!
-//! Not said: when there is no memory.
+//! Of engines, which [`offload_gro_new`] makes and [`offload_gro_free`] ends:
+//!
+//! - `made`: an engine that is made is for so many frames, in runs of so many, and has received none.
+//! - `merges`, `back` of [`offload_gro_merge`]: what a burst comes to, as of `offload_gro_burst`.
+//! - `received` of [`offload_gro_receive`], `merges`, `back` of [`offload_gro_flush`]: what a flush tells is what all
+//!   frames come to that were received since the last one, in however many calls. `none`: then it has received none.
+//! - `refused`: each answer but 0 has its cause; `stays`, `untouched`: then the engine has what it had, and nothing is
+//!   written. An engine may go to another thread (`Send` of its handle).
+//!
+//! Not said: when there is no memory; that an engine takes none after it is made (`contrib/c/burst_check` refuses it
+//! all).
+//!
+//! Its parts: `exports` (a burst), `kept` (engines), `handle` and `heap` (an engine by its address), `codes`.
+//! `specs/Made.antt` says what holds of an engine where there is one, `specs/Heap.antt` what its address owns.
 //!
 //! Tests: `contrib/c/burst_check`.
 //!
 //! Why so:
 //!
-//! - **It is an archive of its own**, besides `offload_c`: who merges bursts alone needs neither rounds nor buffers,
+//! - **It is an archive of its own**, besides `offload_c`: who merges frames alone needs neither rounds nor buffers,
 //!   and builds and links 17 crates instead of those of the whole library.
+//! - **An engine is in its place or out of it**: a call takes it out, works on it and puts it back, so that each call is
+//!   one of `frame_bursts`, and only these two steps are proved by hand. A struct of zeros is a place without an engine,
+//!   so that what `offload_gro_new` makes can be said in its contract.
+//! - **An engine has no frame, and no address of one**: nothing that C lends may be kept in what it owns. So the list
+//!   is passed at each call.
 #![tactic(auto)]
 
+mod codes;
 mod exports;
+mod handle;
+mod heap;
+mod kept;
 
 pub use exports::offload_gro_burst;
+pub use kept::{
+    offload_gro_flush, offload_gro_free, offload_gro_merge, offload_gro_new, offload_gro_receive,
+};

@@ -1,6 +1,6 @@
 -- Frames that a capture may have, whose numbers rise.
 use Rattle.std.proofs.Common.{zero, suc, ◌≡◌, ℕ, ◌+◌, ◌-◌, ◌<◌, ◌≤◌, List, [], ◌∷◌}
-use Rattle.std.proofs.Common.{length, map, get_or}
+use Rattle.std.proofs.Common.{length, map, take, get_or}
 use Rattle.std.proofs.Common.{sym, ap, subst, arith}
 use Rattle.std.specs.List.{AllByRecursion}
 use Rattle.maximal_runs.specs.Cut.{AllNeighbours}
@@ -30,12 +30,36 @@ each_one : (fs : List Lent) → ((k : ℕ) (d : Lent) → k < length fs → IsOn
 each_one [] f = tt
 each_one (x ∷ fs) f = (f 0 x (omega arith), each_one fs (λ k d h. f (suc k) d (omega (arith, h))))
 
-pub are_frames : (fs : List Lent) (n : ℕ) → length fs ≤ n → ((k : ℕ) (d : Lent) → k < n → IsOne (get_or fs k d))
-    → ((j k : ℕ) (d : Lent) → j ≡ k + 1 → j < n → (get_or fs k d).number < (get_or fs j d).number) → AreFrames fs
+pub are_frames : (fs : List Lent) (n : ℕ) → length fs ≤ n
+    → ((k : ℕ) (d : Lent) → k < n → k < length fs → IsOne (get_or fs k d))
+    → ((j k : ℕ) (d : Lent) → j ≡ k + 1 → j < n → j < length fs
+    → (get_or fs k d).number < (get_or fs j d).number) → AreFrames fs
 are_frames fs n few each rises = record {
-  each = each_one fs (λ k d h. each k d (omega (arith, h, few)));
-  rising = rise fs (λ j k d e h. rises j k d e (omega (arith, h, few)));
+  each = each_one fs (λ k d h. each k d (omega (arith, h, few)) h);
+  rising = rise fs (λ j k d e h. rises j k d e (omega (arith, h, few)) h);
 }
+
+-- the first n of them
+pub known_each : (fs : List Lent) (n k : ℕ) (d : Lent) → AllByRecursion IsCaptured (take n (map packet_of fs)) → k < n
+    → k < length fs → IsOne (get_or fs k d)
+known_each [] n k d a h l = absurd (omega (arith, l))
+known_each (x ∷ fs) zero k d a h l = absurd (omega (arith, h))
+known_each (x ∷ fs) (suc n) zero d a h l = a.0
+known_each (x ∷ fs) (suc n) (suc k) d a h l = known_each fs n k d a.1 (omega (arith, h)) (omega (arith, l))
+
+pub known_rise : (fs : List Lent) (n j k : ℕ) (d : Lent)
+    → AllNeighbours (λ (p q : Packet). p.number < q.number) (take n (map packet_of fs)) → j ≡ k + 1 → j < n
+    → j < length fs → (get_or fs k d).number < (get_or fs j d).number
+known_rise [] n j k d r e h l = absurd (omega (arith, l))
+known_rise (x ∷ []) n j k d r e h l = absurd (omega (arith, e, l))
+known_rise (x ∷ y ∷ fs) zero j k d r e h l = absurd (omega (arith, h))
+known_rise (x ∷ y ∷ fs) (suc zero) j k d r e h l = absurd (omega (arith, e, h))
+known_rise (x ∷ y ∷ fs) (suc (suc n)) zero k d r e h l = absurd (omega (arith, e))
+known_rise (x ∷ y ∷ fs) (suc (suc n)) (suc j) zero d r e h l =
+    let first : 0 ≡ j = omega (arith, e) in
+    subst (λ (z : ℕ). x.number < (get_or (y ∷ fs) z d).number) first r.0
+known_rise (x ∷ y ∷ fs) (suc (suc n)) (suc j) (suc k) d r e h l =
+    known_rise (y ∷ fs) (suc n) j k d r.1 (omega (arith, e)) (omega (arith, h)) (omega (arith, l))
 
 -- ---- and frames that aren't so
 

@@ -16,7 +16,7 @@ use Rattle.frame_runs.specs.MergedRun.{payloads_behind}
 use Rattle.frame_bursts.specs.Places.{AreZeros, HasPlaces}
 use Rattle.frame_bursts.specs.declared.told.BurstRun.{BurstRun}
 use Rattle.frame_bursts.specs.declared.burst.Refused.{Refused}
-use Rattle.frame_bursts.specs.declared.burst.Refused.TheVariants.{Usage, NoMemory, NoRoom}
+use Rattle.frame_bursts.specs.declared.burst.Refused.TheVariants.{Usage, Full, NoMemory, NoRoom}
 
 -- frames that a capture may have, whose numbers rise
 abbrev pub AreFrames : List Lent → Type 0
@@ -35,6 +35,7 @@ HasRoom n next runs = (n ≤ next) × (n ≤ runs)
 -- when each refusal comes
 abbrev pub Refuses : ℕ → List Lent → ℕ → ℕ → Refused → Type 0
 Refuses segs frames next runs Usage = AreLawful segs frames → ⊥
+Refuses segs frames next runs Full = ⊥
 Refuses segs frames next runs NoMemory = AreLawful segs frames × HasRoom (length frames) next runs
 Refuses segs frames next runs NoRoom = AreLawful segs frames × ((next < length frames) ⊎ (runs < length frames))
 

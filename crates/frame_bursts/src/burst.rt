@@ -5,9 +5,8 @@ ghost use Rattle.frame_runs.specs.Lent.{packet_of};
 ghost use Rattle.frame_bursts.specs.Burst.{AreLawful, HasRoom, Merges, ComesBack, Refuses, frames_of};
 
 use crate::lawful::are_lawful;
-use crate::told::{BurstRun, put_runs};
+use crate::told::{BurstRun, put_merged};
 use frame_runs::{Engine, Lent};
-use offload_model::runs_come_back;
 use std::alloc::Global;
 
 /// Why a burst isn't merged.
@@ -15,6 +14,8 @@ use std::alloc::Global;
 pub enum Refused {
     /// A number or a frame isn't as it has to be.
     Usage,
+    /// There are more frames than an engine was made for.
+    Full,
     /// There was no memory.
     NoMemory,
     /// `next` or `runs` is shorter than the list of frames.
@@ -41,7 +42,6 @@ pub fn merge_burst(
     ensures untouched { IfErr result (λ _. (next.new ≡ next.old) × (runs.new ≡ runs.old)) }
     ensures sizes { (length next.new ≡ length next.old) × (length runs.new ≡ length runs.old) }
 {
-    runs_come_back();
     if !are_lawful(segs, frames) {
         return Err(Refused::Usage);
     }
@@ -53,7 +53,5 @@ pub fn merge_burst(
         return Err(Refused::NoMemory);
     };
     engine.merge(frames, segs);
-    next[..n].copy_from_slice(&engine.next[..n]);
-    put_runs(&engine, frames, runs);
-    Ok(engine.runs.len())
+    Ok(put_merged(&engine, frames, next, runs))
 }

@@ -1,7 +1,7 @@
 //! What a burst has to be.
-ghost use Rattle.std.specs.Prelude.{◌≡◌, ◌<◌, ◌≤◌, length, slice_index_or};
+ghost use Rattle.std.specs.Prelude.{◌≡◌, ◌<◌, ◌≤◌, length, map, take, slice_index_or};
 ghost use Rattle.std.specs.Bool.{Decides};
-ghost use Rattle.offload_model.specs.Captured.{IsCaptured};
+ghost use Rattle.offload_model.specs.Captured.{AreCaptured, IsCaptured};
 ghost use Rattle.frame_runs.specs.Frames.{AreBytes};
 ghost use Rattle.frame_runs.specs.Lent.{packet_of};
 ghost use Rattle.frame_runs.specs.declared.lent.Lent.{Lent as LentOf};
@@ -39,11 +39,13 @@ fn is_captured(frame: &Lent<'_>) -> bool
     len_in_bytes(frame.bytes) <= MOST_FRAME && frame.original < ORIGINALS
 }
 
-/// Whether each frame is one that a capture may have, and their numbers rise.
-fn are_frames(frames: &[Lent<'_>]) -> bool
+/// Whether each frame is one that a capture may have, and their numbers rise, where the first `from` are known to be
+/// such.
+pub(crate) fn are_frames(frames: &[Lent<'_>], from: usize) -> bool
+    requires known { AreCaptured (take from (map packet_of frames.now)) }
     ensures frames { Decides result (AreFrames frames.now) }
 {
-    for i in 0..frames.len() {
+    for i in from..frames.len() {
         let frame = frame_at(frames, i);
         if !is_captured(&frame) {
             return false;
@@ -62,5 +64,5 @@ fn are_frames(frames: &[Lent<'_>]) -> bool
 pub(crate) fn are_lawful(segs: u32, frames: &[Lent<'_>]) -> bool
     ensures lawful { Decides result (AreLawful segs frames.now) }
 {
-    (1..=4096).contains(&segs) && frames.len() <= 65_535 && are_frames(frames)
+    (1..=4096).contains(&segs) && frames.len() <= 65_535 && are_frames(frames, 0)
 }

@@ -19,6 +19,15 @@
 //!   [`Refused::Usage`], and exactly that is; too little room [`Refused::NoRoom`], and exactly that.
 //! - `untouched`: where it refuses, nothing was written. `sizes`: the caller's lists stay as long as they are.
 //!
+//! A [`BurstEngine`] is the same with memory that is kept: it merges burst after burst, or receives frames as they come.
+//! What it has received is said by the list of these frames (`Holds`), which is the caller's and is passed at each call.
+//! Proved:
+//!
+//! - `merges`, `back` of `merge`: as of [`merge_burst`].
+//! - `received` of `receive`: it has all frames of the list then. `merges`, `back` of `flush`: the runs are those of all
+//!   frames that it has received since the last flush, in however many calls; `none`: then it has received none.
+//! - `refused`: which answer comes when; `stays`, `untouched`: then it has what it had, and nothing was written.
+//!
 //! Not said: when there is no memory.
 //!
 //! ```
@@ -38,15 +47,18 @@
 //! ```
 //!
 //! Its parts: `lawful` (what a caller may pass), `places` (where a merged frame's last headers stand, and the sum of
-//! their pseudo header), `told` (what is said of a run), `burst` (the call). `specs/Burst.antt` says what a lawful
-//! burst is, what is said of a run, and what merging comes to; `specs/Places.antt` what is said of its last headers.
+//! their pseudo header), `told` (what is said of a run), `burst` (the call), `kept` (an engine that is kept).
+//! `specs/Burst.antt` says what a lawful burst is, what is said of a run, and what merging comes to;
+//! `specs/Places.antt` what is said of its last headers, `specs/Kept.antt` what an engine has received.
 //!
 //! Tests: `merge_tests`, module `examples`; `contrib/c/burst_check`.
 //!
 //! Why so:
 //!
-//! - **Frames are lent, and nothing is kept**: the call makes an engine of its own and drops it, so that two bursts
-//!   have nothing in common, and threads need no lock.
+//! - **Frames are lent, and none is kept**: a burst makes an engine of its own and drops it, so that two bursts have
+//!   nothing in common, and threads need no lock. An engine that is kept has indices into a list that is passed again.
+//! - **An engine begins anew with the first frame behind a flush**, so that nothing has to be known of its runs while
+//!   it has received none, and a flush needs no memory.
 //! - **A run has its headers and indices, and no slices**: what a caller writes out are the headers and then parts of
 //!   its own frames, for which it has the pointers.
 //! - **Where the last headers stand is told with each run**, and so is the sum of their pseudo header: a device that
@@ -56,9 +68,11 @@
 #![tactic(auto)]
 
 mod burst;
+mod kept;
 mod lawful;
 mod places;
 mod told;
 
 pub use burst::{Refused, merge_burst};
+pub use kept::BurstEngine;
 pub use told::BurstRun;

@@ -4,15 +4,17 @@ ghost use Rattle.std.specs.Prelude.{ℕ, List, length, map, take, slice_index_or
 ghost use Rattle.std.specs.List.{AllByRecursion};
 ghost use Rattle.pcap_io.specs.Capture.{Packet};
 ghost use Rattle.offload_model.specs.Merged.{merged_of};
+ghost use Rattle.offload_model.specs.Rounds.{runs_in};
 ghost use Rattle.frame_runs.specs.declared.run.Run.{Run as RunOf};
-ghost use Rattle.frame_runs.specs.Engine.{Knows, KnowsSome, AreRuns};
+ghost use Rattle.frame_runs.specs.Engine.{Knows, KnowsSome, AreRuns, runs_of};
 ghost use Rattle.frame_runs.specs.MergedRun.{headers_size, payloads_behind};
 ghost use Rattle.frame_runs.specs.Lent.{packet_of, IsShort};
-ghost use Rattle.frame_bursts.specs.Burst.{Says, Told};
+ghost use Rattle.frame_bursts.specs.Burst.{AreFrames, ComesBack, HasRoom, Merges, Says, Told, frames_of};
 
 use crate::lawful::frame_at;
 use crate::places::places_of;
 use frame_runs::{Engine, Lent, Run};
+use offload_model::runs_come_back;
 
 /// What a run of frames comes to. Its frame is the first `headers_length` bytes of `headers`, and behind them what
 /// stands behind as many bytes of each of its frames, one after the other; of a frame that is alone `headers_length` is
@@ -88,7 +90,7 @@ fn put_run(told: &mut BurstRun, run: &Run, first: &Lent<'_>)
 }
 
 /// Says what all runs of an engine come to.
-pub(crate) fn put_runs(engine: &Engine, frames: &[Lent<'_>], runs: &mut [BurstRun])
+fn put_runs(engine: &Engine, frames: &[Lent<'_>], runs: &mut [BurstRun])
     requires are { AreRuns (map packet_of frames.now) (length frames.now) engine.now }
     requires short { AllByRecursion IsShort frames.now }
     requires room { length engine.now.runs.items ≤ length runs.old }
@@ -102,4 +104,28 @@ pub(crate) fn put_runs(engine: &Engine, frames: &[Lent<'_>], runs: &mut [BurstRu
         let first = frame_at(frames, run.first as usize);
         put_run(&mut runs[i], run, &first);
     }
+}
+
+/// Says what frames come to that an engine has merged: its runs, and for each frame the one behind it. How many runs
+/// there are.
+pub(crate) fn put_merged(
+    engine: &Engine,
+    frames: &[Lent<'_>],
+    next: &mut [u32],
+    runs: &mut [BurstRun],
+) -> usize
+    requires are { AreRuns (map packet_of frames.now) (length frames.now) engine.now }
+    requires captured { AreFrames frames.now }
+    requires room { HasRoom (length frames.now) (length next.old) (length runs.old) }
+    ensures merges { (segs : ℕ) → runs_of (map packet_of frames.now) engine.now ≡ runs_in segs (map packet_of frames.now)
+        → Merges segs (map packet_of frames.now) next.new (take result runs.new) }
+    ensures back { (segs : ℕ) → runs_of (map packet_of frames.now) engine.now ≡ runs_in segs (map packet_of frames.now)
+        → AllByRecursion (λ r. ComesBack (frames_of (map packet_of frames.now) next.new r)) (take result runs.new) }
+    ensures sizes { (length next.new ≡ length next.old) × (length runs.new ≡ length runs.old) }
+{
+    runs_come_back();
+    let n = frames.len();
+    next[..n].copy_from_slice(&engine.next[..n]);
+    put_runs(engine, frames, runs);
+    engine.runs.len()
 }

@@ -1,5 +1,5 @@
 use Rattle.std.proofs.Common.{refl, arith}
-use Rattle.frame_bursts.proofs.Rising.{are_frames, not_captured, not_above}
+use Rattle.frame_bursts.proofs.Rising.{are_frames, known_each, known_rise, not_captured, not_above}
 use Rattle.frame_bursts.proofs.lawful.are_frames.Goals as goal
 
 pub returns-then-not-is_captured : goal.returns-then-not-is_captured
@@ -21,6 +21,12 @@ returns-then-before-frame c = record {
         (c.frame_at-before.ensures.frame c.frame_at-before.result) c.if-before-frame.true a),
   );
 }
+
+pub loop-i-init : goal.loop-i-init
+loop-i-init c = (
+  λ k d h l. known_each c.args.frames.now c.args.from k d c.requires.known.each h l,
+  λ j k d e h l. known_rise c.args.frames.now c.args.from j k d c.requires.known.rising e h l,
+)
 
 pub returns : goal.returns
 returns c = record {
