@@ -1,12 +1,12 @@
-/* offload_burst.h: frames merged where they lie: no frame is moved, and no payload copied. A burst at once, or by an engine that is kept, whose
- * memory is taken once. Linked from liboffload_burst.a.
+/* offload_burst.h: frames merged and cut where they lie: no frame is moved, and no payload copied. They are merged a burst at once, or by an
+ * engine that is kept, whose memory is taken once. Linked from liboffload_burst.a.
  *
  * It is proved for callers that keep the rules below, and docs/PROVED.md says what of it. Nothing checks a C caller: where a rule is broken
  * the behaviour is undefined. Numbers have no rules: each is tested, and a wrong one is answered OFFLOAD_BURST_USAGE.
  *
  *  - A pointer and the count after it name that many bytes or structs, which can be read (const) or written. The pointer isn't NULL, also at
  *    count 0, nor is `bytes` of a frame; nor is `count`.
- *  - What is written (`next`, `runs`, `*count`) overlaps nothing else that is passed.
+ *  - What is written (`next`, `runs`, `segments`, `*count`) overlaps nothing else that is passed.
  *  - While a call runs nobody else writes what was passed to it, or reads what it writes.
  *  - malloc, realloc and free are of one allocator, and malloc aligns to 16.
  *  - No call from a signal handler, nor in the child of a fork of a process that has threads.
@@ -33,8 +33,9 @@ enum offload_burst_status {
     OFFLOAD_BURST_OK = 0,        /* the first *count of `runs` are what the frames come to */
     OFFLOAD_BURST_USAGE = 2,     /* a number or a frame isn't as it has to be; nothing was written, *count is 0 */
     OFFLOAD_BURST_FULL = 4,      /* more frames than the engine was made for; nothing was written, *count is 0 */
+    OFFLOAD_BURST_UNLAWFUL = 6,  /* no merged frame that may be cut so, or a sum of it is wrong; *count is 0 */
     OFFLOAD_BURST_NO_MEMORY = 7, /* malloc refused; nothing was written, *count is 0 */
-    OFFLOAD_BURST_NO_ROOM = 9    /* `next` or `runs` has fewer entries than there are frames; nothing was written, *count is 0 */
+    OFFLOAD_BURST_NO_ROOM = 9    /* a list has fewer entries than are to be written; nothing was written, *count is 0 */
 };
 
 /* An Ethernet frame in one piece, of at most 262,144 bytes. Its first two members are those of a struct iovec. */
@@ -100,6 +101,30 @@ uint32_t offload_gro_flush(struct offload_gro *gro, const struct offload_frame *
 
 /* Ends an engine, whatever it has received: the struct is all zeros then, and may be made an engine again. */
 void offload_gro_free(struct offload_gro *gro);
+
+/* ---- the inverse */
+
+/* A segment of a frame: the first `headers_length` bytes of `headers`, and behind them `length` bytes of the frame, from `at` on. */
+struct offload_segment {
+    uint32_t at;
+    uint32_t length;
+    uint32_t headers_length; /* 42 to 200 */
+    uint8_t headers[200];    /* what is behind the first headers_length bytes is left as it was */
+};
+
+/* Cuts a merged frame into segments of `m` bytes of payload, the last of which has the rest, with their own sequence numbers, identifications,
+ * lengths and sums. `m` and `modes` are those of its run; of a frame that a kernel or a card left to be cut they are its gso_size and 0.
+ *
+ * On OK the first *count of `segments` are the segments that the definition gives: of what a run comes to, the run's frames, byte for byte.
+ * UNLAWFUL exactly where it has to be: a length, a sum or a flag in it is wrong, it has no more than `m` bytes of payload, or `modes` has a bit
+ * for another header than IPv4's with "don't fragment". USAGE where m is 0, or the frame longer than 262,144 bytes. NO_ROOM. */
+uint32_t offload_gso_burst(const uint8_t *frame, size_t length, uint32_t m, uint8_t modes, struct offload_segment *segments,
+                           size_t segments_count, size_t *count);
+
+/* Fills in the sums of a frame that hold that of their pseudo header alone, as a host leaves them to its card (VIRTIO_NET_HDR_F_NEEDS_CSUM); all
+ * other bytes stay. OK where each sum of the frame is right then; UNLAWFUL where one isn't, a length is wrong, or its headers aren't known; USAGE
+ * where it is longer than 262,144 bytes. */
+uint32_t offload_fill_sums(uint8_t *frame, size_t length);
 
 #ifdef __cplusplus
 }

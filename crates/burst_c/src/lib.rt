@@ -1,5 +1,5 @@
-//! Frames for C, merged where they lie: a burst at once, or by an engine that C keeps. `contrib/c/offload_burst.h`
-//! declares what is exported.
+//! Frames for C, merged where they lie, a burst at once or by an engine that C keeps, and cut again.
+//! `contrib/c/offload_burst.h` declares what is exported.
 //!
 //! But for one rule the exports have no `requires`: each number is tested and answered. The rule is of engines, that the
 //! frames they have received stand in the list as they were (`holds`). A C caller owes what the header says, and nothing
@@ -22,18 +22,27 @@
 //! - `refused`: each answer but 0 has its cause; `stays`, `untouched`: then the engine has what it had, and nothing is
 //!   written. An engine may go to another thread (`Send` of its handle).
 //!
+//! Of the inverse:
+//!
+//! - `cut` of [`offload_gso_burst`]: what is told are the segments that the definition cuts the frame into; `refused`,
+//!   `untouched`: each answer but 0 has its cause, and then nothing is written.
+//! - `filled` of [`offload_fill_sums`]: sums that hold that of the pseudo header alone are filled in, and nothing else
+//!   changes; `right`, `wrong`, `usage`: on 0 each sum is right, and each other answer has its cause.
+//!
 //! Not said: when there is no memory; that an engine takes none after it is made (`contrib/c/burst_check` refuses it
 //! all).
 //!
-//! Its parts: `exports` (a burst), `kept` (engines), `handle` and `heap` (an engine by its address), `codes`.
-//! `specs/Made.antt` says what holds of an engine where there is one, `specs/Heap.antt` what its address owns.
+//! Its parts: `exports` (a burst), `kept` (engines), `handle` and `heap` (an engine by its address), `cuts`
+//! (the inverse), `codes`.
+//! `specs/Made.antt` says what holds of an engine where there is one, `specs/Heap.antt` what its address owns,
+//! `specs/Cutting.antt` what cutting answers.
 //!
 //! Tests: `contrib/c/burst_check`.
 //!
 //! Why so:
 //!
 //! - **It is an archive of its own**, besides `offload_c`: who merges frames alone needs neither rounds nor buffers,
-//!   and builds and links 17 crates instead of those of the whole library.
+//!   and builds and links 22 crates instead of those of the whole library.
 //! - **An engine is in its place or out of it**: a call takes it out, works on it and puts it back, so that each call is
 //!   one of `frame_bursts`, and only these two steps are proved by hand. A struct of zeros is a place without an engine,
 //!   so that what `offload_gro_new` makes can be said in its contract.
@@ -42,11 +51,13 @@
 #![tactic(auto)]
 
 mod codes;
+mod cuts;
 mod exports;
 mod handle;
 mod heap;
 mod kept;
 
+pub use cuts::{offload_fill_sums, offload_gso_burst};
 pub use exports::offload_gro_burst;
 pub use kept::{
     offload_gro_flush, offload_gro_free, offload_gro_merge, offload_gro_new, offload_gro_receive,

@@ -5,6 +5,7 @@ use crate::segmenting::cutting::{buffer, merged};
 use crate::tapping::packets::task_over;
 use frags::Outcomes;
 use frame_bursts::{BurstRun, merge_burst};
+use frame_cuts::{CutSegment, cut_frame, fill_frame};
 use frame_layout::{candidate, shape};
 use frame_runs::{Engine, Lent};
 use gro::Packets;
@@ -33,6 +34,13 @@ const NO_RUN: BurstRun = BurstRun {
     ip_at: 0,
     leaf_at: 0,
     leaf: 0,
+    headers: [0; 200],
+};
+
+const NO_SEGMENT: CutSegment = CutSegment {
+    at: 0,
+    length: 0,
+    headers_length: 0,
     headers: [0; 200],
 };
 
@@ -120,6 +128,19 @@ fn example_of_frame_bursts(rt: HostRuntime) {
     assert!(rt; is_one && (run.first, run.n, run.m, run.length, next[0]) == (0, 2, 4, 60, 1));
     assert!(rt; (run.ip_at, run.leaf_at, run.leaf) == (14, 34, 6));
     assert!(rt; run.headers_length == 54 && run.headers[..54] == MERGED[..54]);
+}
+
+#[test]
+fn example_of_frame_cuts(rt: HostRuntime) {
+    let mut frame = MERGED;
+    let mut segments = [NO_SEGMENT; 2];
+    let filled = fill_frame(&mut frame); // none is partial
+    let cut = cut_frame(&frame, 4, 0, &mut segments); // Ok(2): the payload has six bytes
+    let (first, second) = (segments[0], segments[1]);
+    let is_right = matches!(filled, Some(fates) if fates.filled == 0 && fates.wrong == 0);
+    assert!(rt; is_right && matches!(cut, Ok(2)) && frame == MERGED);
+    assert!(rt; (first.at, first.length, second.at, second.length) == (54, 4, 58, 2));
+    assert!(rt; first.headers[..54] == FIRST[..54] && second.headers[..54] == SECOND[..54]);
 }
 
 #[test]

@@ -1,0 +1,5 @@
+mod Counting
+mod Fillings
+mod Judging
+mod Places
+mod Telling
