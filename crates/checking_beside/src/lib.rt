@@ -6,8 +6,8 @@
 //!
 //! Proved, by the names of the clauses of [`check_beside`]: the totals are those of the packets within the blocks, and
 //! checking ends where the capture's bytes stop it (`given`); all blocks are home again, just those that were, whatever
-//! the ending (`home`, `named`); reading has no more pauses than takes that found nothing (`pauses`); and spares go back
-//! while their round is worked (`gives`).
+//! the ending (`home`, `named`); reading has no more pauses than takes that found nothing (`pauses`); and spares go
+//! back while their round is worked (`gives`).
 //!
 //! ```
 //! let end = check_beside(

@@ -22,8 +22,8 @@
 //! Proved of a crew is what `lanes::Works` asks (`did`, `gave`, `none_left` of `run_lanes`): each lane is worked, and
 //! stands at its place again, by an answer that is known to be that of its task (`DidLane` in `specs/Tasks`), in
 //! whatever order answers come; what was lent is there again, or was given. Each lane's task gives what it carries as
-//! soon as its lane is worked (`none_left` of `QueueTask::run` and of `WatchTask::run`), and that is at least what stays
-//! at hand, evenly divided among all lanes (`shares` of `send_all`). Of a desk that is opened: `open`, `count` of
+//! soon as its lane is worked (`none_left` of `QueueTask::run` and of `WatchTask::run`), and that is at least what
+//! stays at hand, evenly divided among all lanes (`shares` of `send_all`). Of a desk that is opened: `open`, `count` of
 //! [`open_desk`], `some`, `few` of [`count_runners`].
 //!
 //! Only tested: that lanes run at the same time. Not said: that a thread runs or is woken.

@@ -18,19 +18,19 @@
 //!              runs       p0 -> p2 -> p3,  p1,  p4     by index, by first packets (`frame_runs::Engine`)
 //! ```
 //!
-//! [`work_packets`] fills idle lanes: it clones each packet for each tap, or has each tap read the packets where they lie,
-//! and spreads the packets over the queues by their flows. With one queue the list of packets becomes the lane's as it stands, and no packet moves; with several
-//! the list is turned in place, and then each packet moves once. Then each queue's engine takes the memory for as many
-//! packets as the queue has. Then all lanes are worked by a [`Works`]: by the thread that calls, one after another
-//! ([`Alone`], [`Beside`]), or by all who run tasks beside it (`lane_crew::LaneCrew`). A queue's work takes no memory
-//! and can't be refused. A tap's lane holds room for all that its clones may leave before it gets them, so giving back
-//! wants no memory.
+//! [`work_packets`] fills idle lanes: it clones each packet for each tap, or has each tap read the packets where they
+//! lie, and spreads the packets over the queues by their flows. With one queue the list of packets becomes the lane's
+//! as it stands, and no packet moves; with several the list is turned in place, and then each packet moves once. Then
+//! each queue's engine takes the memory for as many packets as the queue has. Then all lanes are worked by a [`Works`]:
+//! by the thread that calls, one after another ([`Alone`], [`Beside`]), or by all who run tasks beside it
+//! (`lane_crew::LaneCrew`). A queue's work takes no memory and can't be refused. A tap's lane holds room for all that
+//! its clones may leave before it gets them, so giving back wants no memory.
 //!
 //! Only what is cloned is shared. Where taps get clones, whoever has the packets shares their heads first
 //! (`gro::Packets::share_heads`), and each clone takes of a block's weight. Where the thread that calls reads for taps
-//! (`reads_here` of [`Works`]) they want no clone: each reads the packets before any goes to its queue, and no count word
-//! is stepped for it. Then, and without taps, nothing is asked of the heads, nothing is counted, and packets
-//! of which nobody shares a block come out of the work as such.
+//! (`reads_here` of [`Works`]) they want no clone: each reads the packets before any goes to its queue, and no count
+//! word is stepped for it. Then, and without taps, nothing is asked of the heads, nothing is counted, and packets of
+//! which nobody shares a block come out of the work as such.
 //!
 //! Blocks that a round has and that no packet holds, its spares, lie in no lane. Where others read the next round
 //! beside the work they are lent with a `block_pool::Giver`, and go to the pool that these take lists from as soon as a
@@ -103,9 +103,9 @@
 //! Its parts: `plan` (how many lanes), `lane` (what each has to do, and what it has done), `flow_queue` (the queue of a
 //! packet's flow, folded where plain headers lie), `share` (packets to their queues, and memory for their runs),
 //! `clones` and `fill` (what taps get, where there are any), `read` (packets that taps read where they lie), `keep` (a
-//! clone of each packet beside the work), `working` (one lane's work), `works` (who does it) and `frame_lengths` (by which that is chosen); `giving` (a list that is
-//! lent goes back), `shared` (the filter that taps share), `soles` (why taps have none) and `free`; and on these
-//! `round`.
+//! clone of each packet beside the work), `working` (one lane's work), `works` (who does it) and `frame_lengths` (by
+//! which that is chosen); `giving` (a list that is lent goes back), `shared` (the filter that taps share), `soles` (why
+//! taps have none) and `free`; and on these `round`.
 //!
 //! Tests: `engine_tests`, module `rounds_in_turn::working`.
 //!
@@ -125,9 +125,9 @@
 //!   however many queues. Its lane stays apart while the queues are worked, so who works lanes knows taps with clones
 //!   alone.
 //! - **Only memory stops lanes from being filled**: first there are as many as the plan has, then come each tap's
-//!   clones of all packets, or its windows, then the packets go to their queues, and at last each queue's engine takes its memory. So
-//!   clones are of packets in their order, and a packet that there is no memory for stands in front of the others
-//!   again. Where a tap isn't run its clones are given back at once.
+//!   clones of all packets, or its windows, then the packets go to their queues, and at last each queue's engine takes
+//!   its memory. So clones are of packets in their order, and a packet that there is no memory for stands in front of
+//!   the others again. Where a tap isn't run its clones are given back at once.
 //! - **Memory is taken before the work and not in it**, so a queue's worker has no answer but its runs, and all that a
 //!   worked round can be refused is a tap's windows.
 //! - **Each tap's lane has outcomes of its own**, since it is a thread's. For want of memory the lanes come back as far

@@ -152,12 +152,12 @@ fn finish(packets: &mut Packets, lanes: &mut Lanes) -> Result<(), AllocError>
 }
 
 /// The work of a round in lanes that are idle, by whoever works them. Each packet goes to the queue of its flow; where
-/// there is one queue their list is the lane's. Before any worker starts each tap is given a clone of every packet, where
-/// their heads are shared; else it reads each where it lies, and no block is shared for it. Each worker and each tap
-/// passes the gate at point 0 before its work and at point 1 after it. One clone of each packet may have been kept
-/// before, by [`keep_packets`](crate::keep_packets). What lies in the giver's list is no
-/// block of the packets: it may go back to its pool as soon as a lane is worked, and what doesn't stays there.
-/// By who gives (`Works::gives`) all of it goes back, unless a put finds no place.
+/// there is one queue their list is the lane's. Before any worker starts each tap is given a clone of every packet,
+/// where their heads are shared; else it reads each where it lies, and no block is shared for it. Each worker and each
+/// tap passes the gate at point 0 before its work and at point 1 after it. One clone of each packet may have been kept
+/// before, by [`keep_packets`](crate::keep_packets). What lies in the giver's list is no block of the packets: it may
+/// go back to its pool as soon as a lane is worked, and what doesn't stays there. By who gives (`Works::gives`) all of
+/// it goes back, unless a put finds no place.
 ///
 /// For want of memory what isn't in `packets` any more is in the lanes. Where they are as many as the plan has, their
 /// memory serves.

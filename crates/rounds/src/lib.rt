@@ -52,8 +52,8 @@
 //!   between them, and `given`, `puts` and `gives` say of a round on its way what `merge_all` says of it.
 //! - `worked`, `brings` and `gave` where a giver is lent: what it gave and what comes home are together the round's
 //!   blocks, each counted once, and the giver comes back with an empty list and as many parts of its pass. By who gives
-//!   no spare stays with the round, unless a put found no place (`none_left`, `gives_spares`); what became of the spares
-//!   of rounds that were worked beside a reader [`Rounds::spares`] tells.
+//!   no spare stays with the round, unless a put found no place (`none_left`, `gives_spares`); what became of the
+//!   spares of rounds that were worked beside a reader [`Rounds::spares`] tells.
 //! - `alone` of [`Bench`]: where there are no taps and no clones are kept, nobody but a round's packets holds a block
 //!   of them once it was worked.
 //! - `given` of `read_beside` of [`Intake`]: of a round that is read while another thread works, whose blocks are

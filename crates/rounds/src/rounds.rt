@@ -139,8 +139,8 @@ impl Rounds {
         self.intake.pauses()
     }
 
-    /// What became of the spares of rounds that were worked beside a reader: as many went back meanwhile as these rounds
-    /// had, unless a put found no place.
+    /// What became of the spares of rounds that were worked beside a reader: as many went back meanwhile as these
+    /// rounds had, unless a put found no place.
     pub fn spares(&self) -> Spares
         ensures value { result ≡ self.now.spares }
     {

@@ -7,8 +7,8 @@
 //!
 //! A [`TapTask`] holds a clone of each packet, so its bytes stay while others push, pull, merge or release theirs.
 //! [`TapTask::run`] copies the windows out, into one vector for all of them, and gives every clone back;
-//! [`read_clones`] does the same with lists that are kept from round to round. Where packets lie still while a tap reads
-//! there need be no clone: [`TapTexts::read`] copies a window out of a packet that is lent, a [`TapPacket`].
+//! [`read_clones`] does the same with lists that are kept from round to round. Where packets lie still while a tap
+//! reads there need be no clone: [`TapTexts::read`] copies a window out of a packet that is lent, a [`TapPacket`].
 //!
 //! Proved, by the names of the clauses of `run`:
 //!
