@@ -126,6 +126,25 @@ uint32_t offload_gso_burst(const uint8_t *frame, size_t length, uint32_t m, uint
  * where it is longer than 262,144 bytes. */
 uint32_t offload_fill_sums(uint8_t *frame, size_t length);
 
+/* ---- why a frame can't be merged */
+
+/* The first condition that fails, in this order, but that what a frame without a shape is told by stands in its place: its first IP header. */
+enum offload_cause {
+    OFFLOAD_MERGEABLE = 0, /* none: the frame may be merged */
+    OFFLOAD_CUT = 1,       /* it was cut short */
+    OFFLOAD_FRAGMENT = 2,  /* it is a fragment */
+    OFFLOAD_OPTIONS = 3,   /* its IPv4 header has options */
+    OFFLOAD_EXTENSION = 4, /* its IPv6 header is followed by an extension header */
+    OFFLOAD_LAYOUT = 5,    /* its headers are others than those that merge */
+    OFFLOAD_LENGTH = 6,    /* a length in its headers doesn't count to its end: it has padding, or a card has still to cut it */
+    OFFLOAD_FLAGS = 7,     /* a reserved bit is set, or TCP's flags are others than ACK with at most PSH and FIN */
+    OFFLOAD_EMPTY = 8,     /* it has no payload, as an acknowledgment */
+    OFFLOAD_SUM = 9        /* a sum is wrong, or left to a card */
+};
+
+/* Why a frame that had `original` bytes before it was captured can't be merged. */
+uint32_t offload_why(const uint8_t *frame, size_t length, uint32_t original);
+
 #ifdef __cplusplus
 }
 #endif

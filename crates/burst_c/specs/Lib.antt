@@ -1,3 +1,4 @@
+pub mod Causes
 pub mod Cutting
 pub mod Heap
 pub mod Made

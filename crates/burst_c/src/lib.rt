@@ -29,20 +29,22 @@
 //! - `filled` of [`offload_fill_sums`]: sums that hold that of the pseudo header alone are filled in, and nothing else
 //!   changes; `right`, `wrong`, `usage`: on 0 each sum is right, and each other answer has its cause.
 //!
+//! - `cause`, `candidate` of [`offload_why`]: the number of the definition's cause, 0 exactly where a frame may be merged.
+//!
 //! Not said: when there is no memory; that an engine takes none after it is made (`contrib/c/burst_check` refuses it
 //! all).
 //!
 //! Its parts: `exports` (a burst), `kept` (engines), `handle` and `heap` (an engine by its address), `cuts`
-//! (the inverse), `codes`.
+//! (the inverse), `causes`, `codes`.
 //! `specs/Made.antt` says what holds of an engine where there is one, `specs/Heap.antt` what its address owns,
-//! `specs/Cutting.antt` what cutting answers.
+//! `specs/Cutting.antt` what cutting answers, `specs/Causes.antt` the numbers of causes.
 //!
 //! Tests: `contrib/c/burst_check`.
 //!
 //! Why so:
 //!
 //! - **It is an archive of its own**, besides `offload_c`: who merges frames alone needs neither rounds nor buffers,
-//!   and builds and links 22 crates instead of those of the whole library.
+//!   and builds and links 24 crates instead of those of the whole library.
 //! - **An engine is in its place or out of it**: a call takes it out, works on it and puts it back, so that each call is
 //!   one of `frame_bursts`, and only these two steps are proved by hand. A struct of zeros is a place without an engine,
 //!   so that what `offload_gro_new` makes can be said in its contract.
@@ -50,6 +52,7 @@
 //!   is passed at each call.
 #![tactic(auto)]
 
+mod causes;
 mod codes;
 mod cuts;
 mod exports;
@@ -57,6 +60,7 @@ mod handle;
 mod heap;
 mod kept;
 
+pub use causes::offload_why;
 pub use cuts::{offload_fill_sums, offload_gso_burst};
 pub use exports::offload_gro_burst;
 pub use kept::{

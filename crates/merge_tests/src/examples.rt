@@ -5,6 +5,7 @@ use crate::segmenting::cutting::{buffer, merged};
 use crate::tapping::packets::task_over;
 use frags::Outcomes;
 use frame_bursts::{BurstRun, merge_burst};
+use frame_causes::{Cause, why};
 use frame_cuts::{CutSegment, cut_frame, fill_frame};
 use frame_layout::{candidate, shape};
 use frame_runs::{Engine, Lent};
@@ -128,6 +129,19 @@ fn example_of_frame_bursts(rt: HostRuntime) {
     assert!(rt; is_one && (run.first, run.n, run.m, run.length, next[0]) == (0, 2, 4, 60, 1));
     assert!(rt; (run.ip_at, run.leaf_at, run.leaf) == (14, 34, 6));
     assert!(rt; run.headers_length == 54 && run.headers[..54] == MERGED[..54]);
+}
+
+#[test]
+fn example_of_frame_causes(rt: HostRuntime) {
+    let mut frame = FIRST;
+    let whole = why(&frame, 58);
+    frame[57] = 0;
+    let cause = why(&frame, 58); // Cause::Sum: a byte of the payload was changed
+    let short = why(&frame[..57], 58);
+    assert_eq!(rt;
+        (whole, cause, short),
+        (Cause::Mergeable, Cause::Sum, Cause::Cut)
+    );
 }
 
 #[test]
