@@ -1,5 +1,5 @@
-/* offload.h: captures of TCP segments and UDP datagrams in memory, merged and cut back. Linked from liboffload.a, or
- * from the shared object liboffload.so.2.
+/* offload.h: captures of TCP segments and UDP datagrams in memory, merged and cut back; and by offload_burst.h, which is included, frames merged
+ * and cut where they lie. Linked from liboffload.a, or from the shared object liboffload.so.3.
  *
  * Each call is proved for callers that keep the rules below, and docs/PROVED.md says what of it. Nothing checks a C caller: where a rule
  * is broken the behaviour is undefined.
@@ -17,13 +17,14 @@
 #ifndef OFFLOAD_H
 #define OFFLOAD_H
 
+#include "offload_burst.h"
 #include <stddef.h>
 #include <stdint.h>
 
-/* Of this header, and the number of the shared object, whose names are the six calls below. A change after which a program has to be compiled
- * again raises it. In version 1 `struct offload_options` had neither `size` nor what stands behind `snap`, and there was no
- * offload_queue_rss. */
-#define OFFLOAD_VERSION 2
+/* Of this header, and the number of the shared object, whose names are the six calls below and those of offload_burst.h. A change after which a
+ * program has to be compiled again raises it, and so did the calls of offload_burst.h, which version 2 hadn't. In version 1
+ * `struct offload_options` had neither `size` nor what stands behind `snap`, and there was no offload_queue_rss. */
+#define OFFLOAD_VERSION 3
 
 /* How many bytes of stack suffice for a call: it was seen to use 28920 at most, with those of malloc (stack.c, over all
  * samples, 2026-12-01). This isn't proved. */

@@ -1,5 +1,5 @@
 /* offload_burst.h: frames merged and cut where they lie: no frame is moved, and no payload copied. They are merged a burst at once, or by an
- * engine that is kept, whose memory is taken once. Linked from liboffload_burst.a.
+ * engine that is kept, whose memory is taken once. Linked from liboffload.a, or from liboffload_burst.a, which has these calls alone.
  *
  * It is proved for callers that keep the rules below, and docs/PROVED.md says what of it. Nothing checks a C caller: where a rule is broken
  * the behaviour is undefined. Numbers have no rules: each is tested, and a wrong one is answered OFFLOAD_BURST_USAGE.

@@ -1,4 +1,4 @@
-"""Captures in memory, merged and cut back, by the proved library liboffload.so.
+"""Captures in memory, merged and cut back, and frames merged and cut where they lie, by the proved library liboffload.so.
 
     import offload
 
@@ -6,23 +6,31 @@
     packets = offload.segment(merged)                    # of link type 1 again: each flow's packets, in order and byte for byte
     offload.queue(frame, 4)                              # the receive queue of a frame's flow
 
+    with offload.Gro(64) as gro:                         # frames of Ethernet, as they come: bytes, or anything with their protocol
+        for run in gro.merge(frames):
+            os.writev(device, run.slices())              # headers, and then the payloads where they lie
+    offload.cut(frame, 1448, fill=True)                  # the segments of a merged frame, or of a large send
+    offload.why(frame)                                   # why a frame can't be merged
+
 A call answers the bytes that the program writes, or raises an error of this module, whose text is the program's line. Nothing but the library
-is needed, which is looked for at OFFLOAD_LIBRARY, where `contrib/install` puts it beside this file, and where the loader finds liboffload.so.2.
+is needed, which is looked for at OFFLOAD_LIBRARY, where `contrib/install` puts it beside this file, and where the loader finds liboffload.so.3.
 Calls run in the thread that makes them, without the interpreter's lock, so several threads may call at once.
 """
 
 import ctypes
 import os
 import struct
-from collections.abc import Callable, Iterator, Sequence
+from collections.abc import Callable, Iterable, Iterator, Sequence
 from typing import NamedTuple, Optional, Union
 
-__all__ = ["ENOUGH_BLOCKS", "MalformedError", "NoMemoryError", "OffloadError", "PoolEmptyError", "UsageError", "merge", "queue", "segment"]
+__all__ = ["ENOUGH_BLOCKS", "Gro", "MalformedError", "NoMemoryError", "OffloadError", "PoolEmptyError", "Run", "UsageError"]
+__all__ += ["cut", "merge", "queue", "segment", "why"]
 
 Bytes = Union[bytes, bytearray, memoryview]
 
-VERSION = 2  # of contrib/c/offload.h
+VERSION = 3  # of contrib/c/offload.h
 OK, USAGE, MALFORMED, POOL_EMPTY, NO_MEMORY, NO_ROOM = 0, 2, 3, 4, 7, 9
+CAUSES = ("", "cut short", "a fragment", "IPv4 options", "an extension header", "another layout", "length", "flags", "no payload", "sum")
 ENOUGH_BLOCKS = 8384  # with so many no round of 64 records exceeds the pool
 BLOCKS_OF_A_RECORD = 131
 ETHERNET_LINK, OFFLOAD_LINK = 1, 147
@@ -90,6 +98,35 @@ class Options(ctypes.Structure):
     ]
 
 
+class _Frame(ctypes.Structure):
+    """struct offload_frame of contrib/c/offload_burst.h."""
+
+    _fields_ = [("bytes", ctypes.c_void_p), ("length", ctypes.c_size_t), ("original", ctypes.c_uint32), ("number", ctypes.c_uint32)]
+
+
+class _Run(ctypes.Structure):
+    """struct offload_run of contrib/c/offload_burst.h."""
+
+    _fields_ = [
+        *((name, ctypes.c_uint32) for name in ("first", "n", "m", "length", "headers_length")),
+        ("pseudo", ctypes.c_uint16),
+        *((name, ctypes.c_uint8) for name in ("kind", "modes", "ip_at", "leaf_at", "leaf")),
+        ("headers", ctypes.c_uint8 * 200),
+    ]
+
+
+class _Segment(ctypes.Structure):
+    """struct offload_segment of contrib/c/offload_burst.h."""
+
+    _fields_ = [*((name, ctypes.c_uint32) for name in ("at", "length", "headers_length")), ("headers", ctypes.c_uint8 * 200)]
+
+
+class _Engine(ctypes.Structure):
+    """struct offload_gro of contrib/c/offload_burst.h."""
+
+    _fields_ = [("at", ctypes.c_void_p), ("made", ctypes.c_uint8)]
+
+
 def _loaded() -> ctypes.CDLL:
     """The library, with the types of its calls."""
     name = f"liboffload.so.{VERSION}"
@@ -106,6 +143,17 @@ def _loaded() -> ctypes.CDLL:
     library.offload_segment.argtypes, library.offload_segment.restype = [number, data, size, out, size, count], number
     library.offload_queue.argtypes, library.offload_queue.restype = [data, size, number], number
     library.offload_queue_rss.argtypes, library.offload_queue_rss.restype = [data, size, data, data, size, number], number
+    frames, runs, engine = ctypes.POINTER(_Frame), ctypes.POINTER(_Run), ctypes.POINTER(_Engine)
+    indices = ctypes.POINTER(ctypes.c_uint32)
+    library.offload_gro_new.argtypes, library.offload_gro_new.restype = [engine, number, number], number
+    library.offload_gro_receive.argtypes, library.offload_gro_receive.restype = [engine, frames, size], number
+    library.offload_gro_flush.argtypes = [engine, frames, size, indices, size, runs, size, count]
+    library.offload_gro_flush.restype = number
+    library.offload_gro_free.argtypes, library.offload_gro_free.restype = [engine], None
+    library.offload_gso_burst.argtypes = [out, size, number, ctypes.c_uint8, ctypes.POINTER(_Segment), size, count]
+    library.offload_gso_burst.restype = number
+    library.offload_fill_sums.argtypes, library.offload_fill_sums.restype = [out, size], number
+    library.offload_why.argtypes, library.offload_why.restype = [out, size, number], number
     return library
 
 
@@ -223,6 +271,140 @@ def _answer(status: int, written: bytes) -> bytes:
     if status != OK:
         raise OffloadError(f"status {status}")
     return written
+
+
+# ---- frames, merged and cut where they lie
+
+
+def _lent(frame: Bytes) -> tuple[memoryview, int, object]:
+    """A view of a frame, its address, and what has to live as long as that is used. What can't be written but bytes is copied."""
+    view = memoryview(frame).cast("B")
+    if view.readonly:
+        kept = frame if isinstance(frame, bytes) else bytes(view)
+        return memoryview(kept), ctypes.cast(ctypes.c_char_p(kept), ctypes.c_void_p).value or 0, kept
+    if not view:
+        return _lent(b"")
+    array = (ctypes.c_char * len(view)).from_buffer(view)
+    return view, ctypes.addressof(array), array
+
+
+class Run(NamedTuple):
+    """What frames of one flow come to: `packets` of them, each with `segment` bytes of payload but the last, which may have fewer. Of a frame
+    that is alone `headers` are empty, `segment` and `modes` 0. `frames` are views of those that were received, and no payload is copied."""
+
+    packets: int
+    segment: int
+    modes: int
+    pseudo: int
+    headers: bytes
+    frames: list[memoryview]
+
+    def slices(self) -> list[Union[bytes, memoryview]]:
+        """The merged frame, for os.writev: its headers, and then the payloads where they lie."""
+        at = len(self.headers)
+        return [*([self.headers] if at else []), *(frame[at:] for frame in self.frames)]
+
+    def __bytes__(self) -> bytes:
+        return b"".join(self.slices())
+
+
+class Gro:
+    """An engine that merges at most `frames` (65,535 or fewer) Ethernet frames between two flushes, in runs of at most `segs`.
+
+    with offload.Gro(64) as gro:
+        for run in gro.merge(frames):
+            os.writev(device, run.slices())
+
+    Frames are bytes, or anything with their protocol, and stay as they are until they are flushed. Raises UsageError and NoMemoryError.
+    """
+
+    def __init__(self, frames: int = 64, segs: int = 4096) -> None:
+        self._engine = _Engine()
+        _checked(_library.offload_gro_new(self._engine, _number("frames", frames), _number("segs", segs)), "frames or segs are out of their range")
+        self._limit, self._kept = frames, []
+        self._frames, self._next, self._runs = (_Frame * frames)(), (ctypes.c_uint32 * frames)(), (_Run * frames)()
+
+    def __enter__(self) -> "Gro":
+        return self
+
+    def __exit__(self, *_: object) -> None:
+        self.close()
+
+    def __del__(self) -> None:
+        self.close()
+
+    def close(self) -> None:
+        """Ends the engine; what it has received is dropped."""
+        _library.offload_gro_free(self._engine)
+        self._kept = []
+
+    def receive(self, frame: Bytes, original: Optional[int] = None) -> bool:
+        """One more frame, which had `original` bytes before it was cut short. Whether there is room for a further one before a flush."""
+        view, address, kept = _lent(frame)
+        count = len(self._kept)
+        if count >= self._limit:
+            raise UsageError(f"more than {self._limit} frames without a flush")
+        length = len(view)
+        self._frames[count] = _Frame(address, length, _number("original", length if original is None else original), count)
+        _checked(_library.offload_gro_receive(self._engine, self._frames, count + 1), "no frame, or the engine was closed")
+        self._kept.append((view, kept))
+        return count + 1 < self._limit
+
+    def flush(self) -> list[Run]:
+        """What all frames come to that were received since the last flush, in the order of the runs' first frames."""
+        count, limit = ctypes.c_size_t(), self._limit
+        status = _library.offload_gro_flush(self._engine, self._frames, len(self._kept), self._next, limit, self._runs, limit, count)
+        _checked(status, "the engine was closed")
+        views, self._kept = [view for view, _ in self._kept], []
+        return [self._told(self._runs[i], views) for i in range(count.value)]
+
+    def merge(self, frames: Iterable[Bytes]) -> Iterator[Run]:
+        """The runs of frames, flushed where there is room for no more, and at the end."""
+        for frame in frames:
+            if not self.receive(frame):
+                yield from self.flush()
+        yield from self.flush()
+
+    def _told(self, run: _Run, views: list[memoryview]) -> Run:
+        members, at = [], run.first
+        for _ in range(run.n):
+            members.append(views[at])
+            at = self._next[at]
+        return Run(run.n, run.m, run.modes, run.pseudo, bytes(run.headers[: run.headers_length]), members)
+
+
+def cut(frame: Bytes, segment: int, *, modes: int = 0, fill: bool = False) -> list[list[Union[bytes, memoryview]]]:
+    """The segments of a merged frame, with `segment` bytes of payload each but the last: of each its headers, and a view of its payload.
+
+    Where `fill` is set, sums that a host left to its card are filled in first, in a copy. Raises UsageError where the frame can't be cut so.
+    """
+    view, address, kept = _lent(bytearray(frame) if fill else frame)
+    number, count, length = _number("segment", segment), ctypes.c_size_t(), len(view)
+    if fill:
+        _checked(_library.offload_fill_sums(address, length), "a sum of the frame is wrong, or its headers aren't known")
+    if not 0 <= modes < 256:
+        raise UsageError(f"modes is out of its range: {modes}")
+    room = length // max(number, 1) + 1
+    segments = (_Segment * room)()
+    _checked(_library.offload_gso_burst(address, length, number, modes, segments, room, count), "the frame is no merged one that can be cut so")
+    del kept
+    told = segments[: count.value]
+    return [[bytes(one.headers[: one.headers_length]), view[one.at : one.at + one.length]] for one in told]
+
+
+def why(frame: Bytes, original: Optional[int] = None) -> str:
+    """Why a frame that had `original` bytes before it was captured can't be merged, in a word or two; nothing of one that can."""
+    view, address, kept = _lent(frame)
+    number = _library.offload_why(address, len(view), _number("original", len(view) if original is None else original))
+    del kept
+    return CAUSES[number]
+
+
+def _checked(status: int, reason: str) -> None:
+    if status == NO_MEMORY:
+        raise NoMemoryError("no memory")
+    if status != OK:
+        raise UsageError(reason)
 
 
 # Where a call stopped. The library tells that it did, and what comes of what stands before; the place follows from the lengths in the capture.
