@@ -11,8 +11,8 @@ use frame_cuts::{CutSegment, cut_frame, fill_frame};
 /// What no frame is longer than, in bytes.
 const MOST_FRAME: usize = 262_144;
 
-/// Cuts a merged frame into segments of `m` bytes of payload, the last of which has the rest. `modes` has a bit for each
-/// IP header, the lowest for the first, set where the identification of an IPv4 header stays.
+/// Cuts a merged frame into segments of `m` bytes of payload, the last of which has the rest. `modes` has a bit for
+/// each IP header, the lowest for the first, set where the identification of an IPv4 header stays.
 ///
 /// 0: the first `count` of `segments` are its segments. 2: m is 0, or the frame longer than 262,144 bytes. 6: it is no
 /// merged frame that may be cut so. 9: `segments` is shorter than there are segments. But for 0 nothing was written but

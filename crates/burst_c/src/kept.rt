@@ -102,8 +102,8 @@ pub extern "C" fn offload_gro_receive(alloc: Global, gro: &mut Kept, frames: &[L
 /// What the frames come to that an engine has received since its last flush, as [`offload_gro_burst`] says it. Then it
 /// has received none.
 ///
-/// 0; 2: there is no engine, or these are more or fewer frames than it has received; 9: `next` or `runs` is shorter than
-/// the list of frames. But for 0 nothing was written but `count`, which is 0, and the engine has what it had.
+/// 0; 2: there is no engine, or these are more or fewer frames than it has received; 9: `next` or `runs` is shorter
+/// than the list of frames. But for 0 nothing was written but `count`, which is 0, and the engine has what it had.
 ///
 /// [`offload_gro_burst`]: crate::offload_gro_burst
 #[unsafe(no_mangle)]
@@ -147,7 +147,8 @@ pub extern "C" fn offload_gro_flush(
 /// Merges frames where they lie as [`offload_gro_burst`] does, by the memory of an engine that has received nothing
 /// since its last flush, in runs as it was made for.
 ///
-/// 0, 7, 9 as there; 2 also where there is no engine, or it has received frames; 4: these are more than it was made for.
+/// 0, 7, 9 as there; 2 also where there is no engine, or it has received frames; 4: these are more than it was made
+/// for.
 ///
 /// [`offload_gro_burst`]: crate::offload_gro_burst
 #[unsafe(no_mangle)]

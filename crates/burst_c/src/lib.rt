@@ -1,9 +1,9 @@
 //! Frames for C, merged where they lie, a burst at once or by an engine that C keeps, and cut again.
 //! `contrib/c/offload_burst.h` declares what is exported.
 //!
-//! But for one rule the exports have no `requires`: each number is tested and answered. The rule is of engines, that the
-//! frames they have received stand in the list as they were (`holds`). A C caller owes what the header says, and nothing
-//! checks that it keeps it.
+//! But for one rule the exports have no `requires`: each number is tested and answered. The rule is of engines, that
+//! the frames they have received stand in the list as they were (`holds`). A C caller owes what the header says, and
+//! nothing checks that it keeps it.
 //!
 //! Proved, of [`offload_gro_burst`]:
 //!
@@ -29,7 +29,8 @@
 //! - `filled` of [`offload_fill_sums`]: sums that hold that of the pseudo header alone are filled in, and nothing else
 //!   changes; `right`, `wrong`, `usage`: on 0 each sum is right, and each other answer has its cause.
 //!
-//! - `cause`, `candidate` of [`offload_why`]: the number of the definition's cause, 0 exactly where a frame may be merged.
+//! - `cause`, `candidate` of [`offload_why`]: the number of the definition's cause, 0 exactly where a frame may be
+//!   merged.
 //!
 //! Not said: when there is no memory; that an engine takes none after it is made (`contrib/c/burst_check` refuses it
 //! all).
@@ -45,9 +46,9 @@
 //!
 //! - **It is an archive of its own**, besides `offload_c`: who merges frames alone needs neither rounds nor buffers,
 //!   and builds and links 24 crates instead of those of the whole library.
-//! - **An engine is in its place or out of it**: a call takes it out, works on it and puts it back, so that each call is
-//!   one of `frame_bursts`, and only these two steps are proved by hand. A struct of zeros is a place without an engine,
-//!   so that what `offload_gro_new` makes can be said in its contract.
+//! - **An engine is in its place or out of it**: a call takes it out, works on it and puts it back, so that each call
+//!   is one of `frame_bursts`, and only these two steps are proved by hand. A struct of zeros is a place without an
+//!   engine, so that what `offload_gro_new` makes can be said in its contract.
 //! - **An engine has no frame, and no address of one**: nothing that C lends may be kept in what it owns. So the list
 //!   is passed at each call.
 #![tactic(auto)]

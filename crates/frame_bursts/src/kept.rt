@@ -118,7 +118,8 @@ impl BurstEngine {
         ensures none { IfOk result (λ _. Holds [] self.new) }
         ensures numbers { IsFor self.old.limit self.old.segs self.new }
         ensures refused { IfErr result (RefusesFlush frames.now self.old (length next.old) (length runs.old)) }
-        ensures untouched { IfErr result (λ _. (self.new ≡ self.old) × ((next.new ≡ next.old) × (runs.new ≡ runs.old))) }
+        ensures untouched { IfErr result (λ _. (self.new ≡ self.old)
+            × ((next.new ≡ next.old) × (runs.new ≡ runs.old))) }
         ensures sizes { (length next.new ≡ length next.old) × (length runs.new ≡ length runs.old) }
     {
         let n = frames.len();

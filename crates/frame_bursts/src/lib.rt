@@ -19,13 +19,13 @@
 //!   [`Refused::Usage`], and exactly that is; too little room [`Refused::NoRoom`], and exactly that.
 //! - `untouched`: where it refuses, nothing was written. `sizes`: the caller's lists stay as long as they are.
 //!
-//! A [`BurstEngine`] is the same with memory that is kept: it merges burst after burst, or receives frames as they come.
-//! What it has received is said by the list of these frames (`Holds`), which is the caller's and is passed at each call.
-//! Proved:
+//! A [`BurstEngine`] is the same with memory that is kept: it merges burst after burst, or receives frames as they
+//! come. What it has received is said by the list of these frames (`Holds`), which is the caller's and is passed at
+//! each call. Proved:
 //!
 //! - `merges`, `back` of `merge`: as of [`merge_burst`].
-//! - `received` of `receive`: it has all frames of the list then. `merges`, `back` of `flush`: the runs are those of all
-//!   frames that it has received since the last flush, in however many calls; `none`: then it has received none.
+//! - `received` of `receive`: it has all frames of the list then. `merges`, `back` of `flush`: the runs are those of
+//!   all frames that it has received since the last flush, in however many calls; `none`: then it has received none.
 //! - `refused`: which answer comes when; `stays`, `untouched`: then it has what it had, and nothing was written.
 //!
 //! Not said: when there is no memory.

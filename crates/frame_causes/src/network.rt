@@ -1,6 +1,7 @@
 //! Why a frame has no shape, by its first IP header.
 ghost use Rattle.std.specs.Prelude.{◌≡◌, ◌≢◌, ◌+◌, ◌≤◌, ◌<◌, ◌^◌, length};
-ghost use Rattle.frame_causes.specs.Causes.{network_at as network_said, ip4_cause as ip4_said, is_extension as extension_said};
+ghost use Rattle.frame_causes.specs.Causes.{network_at as network_said, ip4_cause as ip4_said};
+ghost use Rattle.frame_causes.specs.Causes.{is_extension as extension_said};
 ghost use Rattle.frame_causes.specs.Causes.{ip6_cause as ip6_said, shape_cause as shape_said};
 ghost use Rattle.frame_causes.specs.declared.cause.Cause.TheVariants.{Mergeable};
 ghost use Rattle.net_bytes.specs.Bytes.{byte, be16 as be16_of};

@@ -1,5 +1,6 @@
 //! A merged frame, cut where it lies.
-ghost use Rattle.std.specs.Prelude.{◌≡◌, ◌+◌, ◌-◌, ◌*◌, ◌/◌, ◌<◌, ◌≤◌, ◌^◌, ℕ, IfOk, IfErr, IfSome, IfNone, length, take};
+ghost use Rattle.std.specs.Prelude.{◌≡◌, ◌+◌, ◌-◌, ◌*◌, ◌/◌, ◌<◌, ◌≤◌, ◌^◌, ℕ, length, take};
+ghost use Rattle.std.specs.Prelude.{IfOk, IfErr, IfSome, IfNone};
 ghost use Rattle.frame_cuts.specs.Cuts.{bytes_of, cut_head as cut_head_of, whole, Cuts, Refuses};
 ghost use Rattle.net_bytes.specs.Bytes.{byte};
 ghost use Rattle.offload_model.specs.Segments.{IsLawfulSuper};
@@ -14,8 +15,8 @@ use segment_rule::{Segmentation, segmentation_of};
 /// What no frame is longer than, in bytes.
 const MOST_FRAME: usize = 262_144;
 
-/// A segment of a frame: the first `headers_length` bytes of `headers`, and behind them `length` bytes of the frame, from
-/// `at` on.
+/// A segment of a frame: the first `headers_length` bytes of `headers`, and behind them `length` bytes of the frame,
+/// from `at` on.
 #[repr(C)]
 #[derive(Clone, Copy)]
 pub struct CutSegment {
@@ -97,9 +98,9 @@ fn put_segment(segment: &mut CutSegment, cut: &Segmentation, frame: &[u8], i: u3
     cut.put_headers(headers, i, sum);
 }
 
-/// Cuts a merged frame into segments of `m` bytes of payload, the last of which has the rest: what each is, in the first
-/// of `segments`, and how many there are. `modes` has a bit for each IP header, the lowest for the first, set where the
-/// identification of an IPv4 header stays.
+/// Cuts a merged frame into segments of `m` bytes of payload, the last of which has the rest: what each is, in the
+/// first of `segments`, and how many there are. `modes` has a bit for each IP header, the lowest for the first, set
+/// where the identification of an IPv4 header stays.
 pub fn cut_frame(
     frame: &[u8],
     m: u32,

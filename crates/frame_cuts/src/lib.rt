@@ -1,8 +1,8 @@
 //! A merged frame that somebody lends, cut where it lies: no payload is copied.
 //!
-//! [`cut_frame`] takes a frame in a slice, and says of each of its segments what its headers are, written out, and where
-//! in the frame its payload lies. [`fill_frame`] fills in the sums that a host left to its card, so that a large send of
-//! a kernel is cut too.
+//! [`cut_frame`] takes a frame in a slice, and says of each of its segments what its headers are, written out, and
+//! where in the frame its payload lies. [`fill_frame`] fills in the sums that a host left to its card, so that a large
+//! send of a kernel is cut too.
 //!
 //! Proved:
 //!
@@ -26,8 +26,9 @@
 //! Why so:
 //!
 //! - **How many segments there are isn't asked for**: of a payload and their length one number alone is lawful.
-//! - **Each byte of the payload is read twice**, to judge the frame and for its segment's sum: what is kept between would
-//!   be a list of sums, and on the caller's lists nothing may be written before it is known that the frame is lawful.
+//! - **Each byte of the payload is read twice**, to judge the frame and for its segment's sum: what is kept between
+//!   would be a list of sums, and on the caller's lists nothing may be written before it is known that the frame is
+//!   lawful.
 //! - **Sums are filled in by a call of its own**, in the frame itself: who reads from a device with sums left to it has
 //!   small packets too, which aren't cut.
 #![tactic(auto)]
