@@ -28,7 +28,6 @@
 //!   `untouched`: each answer but 0 has its cause, and then nothing is written.
 //! - `filled` of [`offload_fill_sums`]: sums that hold that of the pseudo header alone are filled in, and nothing else
 //!   changes; `right`, `wrong`, `usage`: on 0 each sum is right, and each other answer has its cause.
-//!
 //! - `cause`, `candidate` of [`offload_why`]: the number of the definition's cause, 0 exactly where a frame may be
 //!   merged.
 //!
@@ -45,7 +44,7 @@
 //! Why so:
 //!
 //! - **It is an archive of its own**, besides `offload_c`: who merges frames alone needs neither rounds nor buffers,
-//!   and builds and links 24 crates instead of those of the whole library.
+//!   and builds and links 22 crates instead of those of the whole library.
 //! - **An engine is in its place or out of it**: a call takes it out, works on it and puts it back, so that each call
 //!   is one of `frame_bursts`, and only these two steps are proved by hand. A struct of zeros is a place without an
 //!   engine, so that what `offload_gro_new` makes can be said in its contract.

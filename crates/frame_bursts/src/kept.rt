@@ -1,5 +1,6 @@
 //! An engine that is kept between bursts, so that its memory is taken once.
-ghost use Rattle.std.specs.Prelude.{◌≡◌, ◌+◌, ◌-◌, ◌<◌, ◌≤◌, ◌^◌, ◌⊎◌, [], ℕ, IfOk, IfErr, IsTrue, length, map, take};
+ghost use Rattle.std.specs.Prelude.{◌≡◌, ◌+◌, ◌-◌, ◌<◌, ◌≤◌, ◌^◌, ◌⊎◌, [], ℕ};
+ghost use Rattle.std.specs.Prelude.{IfOk, IfErr, IsTrue, length, map, take};
 ghost use Rattle.std.specs.List.{AllByRecursion};
 ghost use Rattle.frame_runs.specs.Engine.{HasPlaces, HasReceived, DoRise};
 ghost use Rattle.frame_runs.specs.Lent.{packet_of, IsShort};
@@ -118,8 +119,8 @@ impl BurstEngine {
         ensures none { IfOk result (λ _. Holds [] self.new) }
         ensures numbers { IsFor self.old.limit self.old.segs self.new }
         ensures refused { IfErr result (RefusesFlush frames.now self.old (length next.old) (length runs.old)) }
-        ensures untouched { IfErr result (λ _. (self.new ≡ self.old)
-            × ((next.new ≡ next.old) × (runs.new ≡ runs.old))) }
+        ensures untouched { IfErr result
+            (λ _. (self.new ≡ self.old) × ((next.new ≡ next.old) × (runs.new ≡ runs.old))) }
         ensures sizes { (length next.new ≡ length next.old) × (length runs.new ≡ length runs.old) }
     {
         let n = frames.len();

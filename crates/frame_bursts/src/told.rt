@@ -117,10 +117,11 @@ pub(crate) fn put_merged(
     requires are { AreRuns (map packet_of frames.now) (length frames.now) engine.now }
     requires captured { AreFrames frames.now }
     requires room { HasRoom (length frames.now) (length next.old) (length runs.old) }
-    ensures merges { (segs : ℕ) → runs_of (map packet_of frames.now) engine.now
-        ≡ runs_in segs (map packet_of frames.now)
+    ensures merges { (segs : ℕ)
+        → runs_of (map packet_of frames.now) engine.now ≡ runs_in segs (map packet_of frames.now)
         → Merges segs (map packet_of frames.now) next.new (take result runs.new) }
-    ensures back { (segs : ℕ) → runs_of (map packet_of frames.now) engine.now ≡ runs_in segs (map packet_of frames.now)
+    ensures back { (segs : ℕ)
+        → runs_of (map packet_of frames.now) engine.now ≡ runs_in segs (map packet_of frames.now)
         → AllByRecursion (λ r. ComesBack (frames_of (map packet_of frames.now) next.new r)) (take result runs.new) }
     ensures sizes { (length next.new ≡ length next.old) × (length runs.new ≡ length runs.old) }
 {

@@ -1,5 +1,6 @@
 -- Why a frame can't be merged.
-use Rattle.std.specs.Prelude.{ℕ, ◌+◌, ◌-◌, ◌%◌, Bool, not, ◌==◌, ◌||◌, nat_lt, if◌then◌else◌, Option, None, Some, List, length}
+use Rattle.std.specs.Prelude.{ℕ, ◌+◌, ◌-◌, ◌%◌, Bool, not, ◌==◌, ◌||◌, nat_lt}
+use Rattle.std.specs.Prelude.{if◌then◌else◌, Option, None, Some, List, length}
 use Rattle.net_bytes.specs.Bytes.{byte, be16}
 use Rattle.eth_vlan.specs.Tag.{is_tag}
 use Rattle.frame_layout.specs.Candidate.{is_length_right, are_flags_plain, all_sums_right}
@@ -8,7 +9,8 @@ use Rattle.frame_layout.specs.Shape.{Layout, shape_of}
 use Rattle.frame_layout.specs.declared.layout.Header.{Header}
 use Rattle.frame_layout.specs.declared.layout.Layer.TheVariants.{Ethernet}
 use Rattle.frame_causes.specs.declared.cause.Cause.{Cause}
-use Rattle.frame_causes.specs.declared.cause.Cause.TheVariants.{Mergeable, Cut, Fragment, Options, Extension, Layout as OtherLayout}
+use Rattle.frame_causes.specs.declared.cause.Cause.TheVariants.{Mergeable, Cut, Fragment, Options, Extension}
+use Rattle.frame_causes.specs.declared.cause.Cause.TheVariants.{Layout as OtherLayout}
 use Rattle.frame_causes.specs.declared.cause.Cause.TheVariants.{Length, Flags, Empty, Sum}
 
 -- ---- of a frame without a shape: what the first IP header says, behind at most two tags (IEEE 802.1Q, clause 9)

@@ -1,5 +1,5 @@
 -- A frame with its sums filled in, case by case.
-use Rattle.std.proofs.Common.{◌≡◌, ◌&&◌, Bool, false, List, [], length, sym, ap, ◌∙◌, Option, None, Some}
+use Rattle.std.proofs.Common.{◌≡◌, ◌&&◌, Bool, false, List, [], length, sym, ap, ◌∙◌, Option, Some}
 use Rattle.std.specs.Prelude.{if◌then◌else◌}
 use Rattle.std.proofs.lemmas.Bool.{eq-eqb}
 use Rattle.frame_layout.specs.Shape.{Layout, shape_of}

@@ -1,5 +1,5 @@
 -- Where a segment's payload lies, and what its headers are made of.
-use Rattle.std.proofs.Common.{◌≡◌, ℕ, zero, suc, ◌+◌, ◌-◌, ◌*◌, ◌<◌, ◌≤◌, ◌^◌, List, ◌++◌, length, min, take, drop}
+use Rattle.std.proofs.Common.{◌≡◌, ℕ, ◌+◌, ◌-◌, ◌*◌, ◌<◌, List, ◌++◌, length, min, take, drop}
 use Rattle.std.proofs.Common.{sym, ap, ◌∙◌, subst, arith, length-drop}
 use Rattle.std.proofs.lemmas.List.{length-take-le, drop-drop, take_min}
 use Rattle.net_bytes.specs.Bytes.{byte}
@@ -8,7 +8,7 @@ use Rattle.frame_layout.specs.Headers.{AtHeaders, AreLaid}
 use Rattle.offload_model.specs.Mergeable.{IsLengthInRange}
 use Rattle.segment_rule.specs.declared.segmentation.Segmentation.{Segmentation}
 use Rattle.segment_rule.specs.Segmentations.{segment_at, segment_from, payload_at, IsSegmentationOf}
-use Rattle.segment_rule.proofs.Segments.{places, payload_short, segment_ranges}
+use Rattle.segment_rule.proofs.Segments.{places, segment_ranges}
 
 -- the first m of some bytes, or all of fewer
 first_n : (x : List ℕ) (m n : ℕ) → n ≡ min m (length x) → take n x ≡ take m x

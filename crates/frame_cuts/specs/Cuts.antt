@@ -23,7 +23,8 @@ bytes_of f s = take s.headers_length s.headers ++ take s.length (drop s.at f)
 -- the frame is a lawful one of so many segments of m bytes, and these are its segments, byte for byte and in order
 pub record Cuts (m modes : ℕ) (f : List ℕ) (told : List CutSegment) : Type 0 where
   pub lawful : IsLawfulSuper (cut_head (length told) m modes) (whole f)
-  pub segments : map (bytes_of f) told ≡ map (λ (p : Packet). p.frame) (segments_by (cut_head (length told) m modes) (whole f))
+  pub segments : map (bytes_of f) told
+      ≡ map (λ (p : Packet). p.frame) (segments_by (cut_head (length told) m modes) (whole f))
 
 abbrev pub MayBeCut : ℕ → List ℕ → Type 0
 MayBeCut m f = (1 ≤ m) × (length f ≤ most_frame)

@@ -1,6 +1,6 @@
 //! A merged frame, cut where it lies.
-ghost use Rattle.std.specs.Prelude.{◌≡◌, ◌+◌, ◌-◌, ◌*◌, ◌/◌, ◌<◌, ◌≤◌, ◌^◌, ℕ, length, take};
-ghost use Rattle.std.specs.Prelude.{IfOk, IfErr, IfSome, IfNone};
+ghost use Rattle.std.specs.Prelude.{◌≡◌, ◌+◌, ◌-◌, ◌*◌, ◌/◌, ◌<◌, ◌≤◌, ◌^◌, ℕ};
+ghost use Rattle.std.specs.Prelude.{IfOk, IfErr, IfSome, IfNone, length, take};
 ghost use Rattle.frame_cuts.specs.Cuts.{bytes_of, cut_head as cut_head_of, whole, Cuts, Refuses};
 ghost use Rattle.net_bytes.specs.Bytes.{byte};
 ghost use Rattle.offload_model.specs.Segments.{IsLawfulSuper};

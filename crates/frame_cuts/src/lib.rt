@@ -1,8 +1,8 @@
 //! A merged frame that somebody lends, cut where it lies: no payload is copied.
 //!
 //! [`cut_frame`] takes a frame in a slice, and says of each of its segments what its headers are, written out, and
-//! where in the frame its payload lies. [`fill_frame`] fills in the sums that a host left to its card, so that a large
-//! send of a kernel is cut too.
+//! where in the frame its payload lies. [`fill_frame`] fills in the sums that a host left to its card, so that a
+//! large send of a kernel is cut too.
 //!
 //! Proved:
 //!

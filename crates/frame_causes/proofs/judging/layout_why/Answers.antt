@@ -1,10 +1,10 @@
-use Rattle.std.proofs.Common.{◌≡◌, ℕ, ◌+◌, ◌<◌, ◌≤◌, List, [], length, Some, true, false, sym, ap, ◌∙◌, refl, subst, arith}
+use Rattle.std.proofs.Common.{◌≡◌, ℕ, ◌+◌, ◌≤◌, List, [], length, Some, sym, ap, ◌∙◌, subst, arith}
 use Rattle.std.proofs.lemmas.Bool.{false≢true, le-ltb, lt-ltb}
 use Rattle.std.proofs.lemmas.List.{append-nil}
 use Rattle.frame_layout.specs.Candidate.{IsCandidate, is_length_right, are_flags_plain}
 use Rattle.frame_layout.specs.Headers.{AtHeaders, all_headers, size}
 use Rattle.frame_layout.specs.Shape.{Layout}
-use Rattle.frame_causes.proofs.Deciding.{lengths, flags, payload, sums, sums_right, sums_wrong, headers_in}
+use Rattle.frame_causes.proofs.Deciding.{lengths, flags, sums_right, sums_wrong, headers_in}
 use Rattle.frame_causes.proofs.Deciding.{length_is, flags_are, empty_is, sum_is, merges}
 use Rattle.frame_causes.proofs.judging.layout_why.Goals.{After-are_lengths_right, After-are_flags_plain, After-payload_at}
 use Rattle.frame_causes.proofs.judging.layout_why.Goals as goal

@@ -1,4 +1,4 @@
-use Rattle.std.proofs.Common.{◌≡◌, ℕ, List, length, Some, sym, ap, ◌∙◌, subst}
+use Rattle.std.proofs.Common.{◌≡◌, ℕ, List, length, Some, sym, ◌∙◌, subst}
 use Rattle.frame_layout.specs.Candidate.{IsCandidate}
 use Rattle.frame_layout.specs.Shape.{Layout}
 use Rattle.frame_causes.proofs.Deciding.{candidate_from, candidate_to}
