@@ -5,10 +5,12 @@ use offload_run::{Status, run_streams};
 use std::alloc::Global;
 use std::io::{BufReader, BufWriter, Cursor};
 use std::process::Abort;
+use std::sync::Wait;
 use std::test::Fail;
+use std::thread::Threads;
 
 // What a writer is given that has room for 24 bytes alone.
-fn front_of_a_run(rt: &HostRuntime, alloc: Global) -> (Status, [u8; 24]) {
+fn front_of_a_run(rt: &(impl Threads + Wait + Abort + Sync), alloc: Global) -> (Status, [u8; 24]) {
     let words = words(rt, alloc, "offload merge --segs 1");
     let input = BufReader::with_capacity(alloc, 64, CAPTURE.as_slice());
     let output = BufWriter::with_capacity(alloc, 64, Cursor::new([0; 24]));
