@@ -1,6 +1,6 @@
 -- What calls do to the bytes that a source has left and a sink holds, where these tell.
-use Rattle.std.specs.Prelude.{◌≡◌, ℕ, ◌<◌, List, ◌++◌, length, take, slice_index, Bool, IfSome, Option, None, Some, Result, ⊤}
-use Rattle.std.specs.Prelude.{MatchResult}
+use Rattle.std.specs.Prelude.{◌≡◌, ℕ, ◌<◌, List, ◌++◌, length, take, slice_index, Bool, ⊤}
+use Rattle.std.specs.Prelude.{IfSome, Option, None, Some, Result, MatchResult}
 use Rattle.std.specs.Io.KnownBytes.{Appends, Consumes, IsAtEnd}
 
 -- of a piece the first bytes were appended, maybe none and maybe all

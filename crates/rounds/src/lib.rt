@@ -4,8 +4,8 @@
 //!   pool ── taken, marked 0, 1, .. ──> |64|first bytes | more .. |     one record's blocks, and two spares beside
 //!    ^
 //!    ├── nobody else holds one: each goes home by itself
-//!    └── clones for taps, or that are kept: a place for each mark, where the Sole that comes back goes home and a receipt
-//!        waits for its Sole or is closed
+//!    └── clones for taps, or that are kept: a place for each mark, where the Sole that comes back goes home and a
+//!        receipt waits for its Sole or is closed
 //! ```
 //!
 //! A record is judged in this order: its header, whether the round then needs more blocks than there are, its body. So
