@@ -1,1 +1,3 @@
 mod Fields
+-- what cutting a merged frame comes to
+mod Inverse

@@ -28,16 +28,18 @@
 //!   `untouched`: each answer but 0 has its cause, and then nothing is written.
 //! - `filled` of [`offload_fill_sums`]: sums that hold that of the pseudo header alone are filled in, and nothing else
 //!   changes; `right`, `wrong`, `usage`: on 0 each sum is right, and each other answer has its cause.
+//! - `law` of [`merged_comes_apart`]: a merged frame of a burst is never refused by `offload_gso_burst` where it is cut
+//!   by the numbers of its run, and is cut into just the frames of the run, byte for byte and in order.
 //! - `cause`, `candidate` of [`offload_why`]: the number of the definition's cause, 0 exactly where a frame may be
 //!   merged.
 //!
 //! Not said: when there is no memory; that an engine takes none after it is made (`contrib/c/burst_check` refuses it
 //! all).
 //!
-//! Its parts: `exports` (a burst), `kept` (engines), `handle` and `heap` (an engine by its address), `cuts`
-//! (the inverse), `causes`, `codes`.
-//! `specs/Made.antt` says what holds of an engine where there is one, `specs/Heap.antt` what its address owns,
-//! `specs/Cutting.antt` what cutting answers, `specs/Causes.antt` the numbers of causes.
+//! Its parts: `exports` (a burst), `kept` (engines), `handle` and `heap` (an engine by its address), `cuts` (the
+//! inverse), `laws` (both together), `causes`, `codes`. `specs/Made.antt` says what holds of an engine where there is
+//! one, `specs/Heap.antt` what its address owns, `specs/Cutting.antt` what cutting answers, `specs/Inverse.antt` what
+//! comes of a merged frame that is cut, `specs/Causes.antt` the numbers of causes.
 //!
 //! Tests: `contrib/c/burst_check`.
 //!
@@ -59,6 +61,7 @@ mod exports;
 mod handle;
 mod heap;
 mod kept;
+mod laws;
 
 pub use causes::offload_why;
 pub use cuts::{offload_fill_sums, offload_gso_burst};
@@ -66,3 +69,4 @@ pub use exports::offload_gro_burst;
 pub use kept::{
     offload_gro_flush, offload_gro_free, offload_gro_merge, offload_gro_new, offload_gro_receive,
 };
+pub use laws::merged_comes_apart;

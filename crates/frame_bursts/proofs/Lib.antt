@@ -2,4 +2,4 @@ mod Keeping
 mod Laying
 mod Placing
 mod Rising
-mod Saying
+pub mod Saying

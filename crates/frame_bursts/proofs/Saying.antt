@@ -192,7 +192,7 @@ all_mapped : {A B : Type 0} (P : B → Type 0) (F : A → B) (xs : List A) → A
 all_mapped P F [] a = tt
 all_mapped P F (x ∷ xs) a = (a.0, all_mapped P F xs a.1)
 
-items_in : (segs : ℕ) (ps : List Packet) → AreCaptured ps
+pub items_in : (segs : ℕ) (ps : List Packet) → AreCaptured ps
     → AreItems (IsMergeableWithin segs) is_of number_of ps (runs_in segs ps)
 items_in segs ps c =
     let all : filter (is_queued (λ key. 0) 0) ps ≡ ps = all_queued (λ key. 0) ps (λ key. omega arith) in
