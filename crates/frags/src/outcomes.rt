@@ -58,16 +58,6 @@ impl Outcomes {
         }
     }
 
-    /// Holds these Soles, with no place for a receipt: for a caller that has none, and so saves the memory of their
-    /// list.
-    pub fn of_soles(soles: Vec<Sole>) -> Outcomes
-        ensures soles { result.soles ≡ soles.items }
-        ensures receipts { result.receipts ≡ [] }
-    {
-        let receipts = Vec::new(*soles.allocator());
-        Outcomes { soles, receipts }
-    }
-
     /// Room for `n` Soles and `n` receipts more, so that giving them back takes no memory. What is reserved stays so,
     /// also where there is no memory for more.
     pub fn reserve(&mut self, n: usize) -> Result<(), AllocError>

@@ -6,7 +6,6 @@ use block_pool::Pool;
 use block_supply::{AllHome, RECORD_BLOCKS};
 use frame_layout::Choice;
 use gro::Packets;
-use item_records::write_items;
 use lane_crew::{count_runners, open_desk};
 use lanes::{Alone, LanePlan, Lanes, work_packets};
 use off_io::{MemSink, NoGate};
@@ -59,17 +58,6 @@ fn example_of_records(rt: HostRuntime) {
     let written = write_record(&mut sink, &file, time, original, None, &segment);
     assert_eq!(rt; (written, sink.bytes().len()), (Ok(()), 21));
     segment.free();
-}
-
-#[test]
-fn example_of_item_records(rt: HostRuntime) {
-    let alloc = rt.alloc();
-    let (file, lane) = (FILE, 4);
-    let mut sink = MemSink::new(alloc, 64, Vec::new(alloc));
-    let items = one_item(&rt, alloc);
-    let written = write_items(&mut sink, &file, lane, &items);
-    assert_eq!(rt; (written, sink.bytes().len()), (Ok(()), 37));
-    all_go_home(&rt, items);
 }
 
 #[test]

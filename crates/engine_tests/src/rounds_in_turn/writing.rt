@@ -1,13 +1,9 @@
 //! Records of a frame in two blocks, byte for byte, and at a sink whose calls fail in turn.
 
-ghost use Rattle.std.specs.Prelude.{All};
-ghost use Rattle.item_records.specs.Items.{FitsItem};
-
 mod in_place;
 
 use frags::{Outcomes, PieceBuilder};
 use gro_table::Item;
-use item_records::write_items;
 use off_io::{MemSink, WriteFault};
 use pcap_io::{FileHead, OffHead2, Order};
 use raw_block::Sole;
@@ -43,9 +39,7 @@ pub(crate) fn frame(rt: &impl Abort, alloc: Global) -> Skb {
 }
 
 /// One item, of that frame.
-pub(crate) fn one_item(rt: &impl Abort, alloc: Global) -> Vec<Item>
-    ensures fits { All FitsItem result.items }
-{
+pub(crate) fn one_item(rt: &impl Abort, alloc: Global) -> Vec<Item> {
     let outcomes = Outcomes::with_room(alloc, 2).expect(rt, "places");
     let mut items = Vec::with_capacity(alloc, 1).expect(rt, "no memory");
     let skb = frame(rt, alloc);
@@ -64,12 +58,26 @@ pub(crate) fn one_item(rt: &impl Abort, alloc: Global) -> Vec<Item>
     items
 }
 
-fn write(sink: &mut MemSink, items: &[Item]) -> Result<(), WriteFault>
-    requires fit { All FitsItem items.now }
-{
-    write_items(sink, &FILE, 4, items)?;
+/// An item as a record of queue 4.
+pub(crate) fn write_item(
+    rt: &impl Abort,
+    sink: &mut MemSink,
+    item: &Item,
+) -> Result<(), WriteFault> {
+    assert!(rt; item.original < 1000 && item.skb.len() < 1000);
+    let time = Time {
+        sec: item.sec,
+        frac: item.frac,
+    };
+    let head = Some(item.head(4));
+    write_record(sink, &FILE, time, item.original, head, &item.skb)
+}
+
+fn write(rt: &impl Abort, sink: &mut MemSink, items: &[Item]) -> Result<(), WriteFault> {
     let time = Time { sec: 1, frac: 2 };
     for item in items {
+        write_item(rt, sink, item)?;
+        assert!(rt; item.skb.len() < 1000);
         write_record(sink, &FILE, time, 9, None, &item.skb)?;
     }
     let head = OffHead2 {
@@ -85,12 +93,10 @@ fn write(sink: &mut MemSink, items: &[Item]) -> Result<(), WriteFault>
 }
 
 // Whether writing fails where this call of the sink does, and a prefix is written.
-fn fails_at(rt: &impl Abort, alloc: Global, items: &[Item], call: u64) -> bool
-    requires fit { All FitsItem items.now }
-{
+fn fails_at(rt: &impl Abort, alloc: Global, items: &[Item], call: u64) -> bool {
     let fails = [call].to_vec(alloc).expect(rt, "no memory");
     let mut sink = MemSink::new(alloc, 16, fails);
-    write(&mut sink, items) == Err(WriteFault) && WRITTEN.starts_with(sink.bytes())
+    write(rt, &mut sink, items) == Err(WriteFault) && WRITTEN.starts_with(sink.bytes())
 }
 
 #[test]
@@ -98,7 +104,7 @@ fn records_are_headers_and_slices(rt: HostRuntime) {
     let alloc = rt.alloc();
     let items = one_item(&rt, alloc);
     let mut sink = MemSink::new(alloc, 16, Vec::new(alloc));
-    let answer = write(&mut sink, &items);
+    let answer = write(&rt, &mut sink, &items);
     assert_eq!(rt; (answer, sink.bytes()), (Ok(()), WRITTEN.as_slice()));
     for call in 0..9 {
         assert!(rt; fails_at(&rt, alloc, &items, call));

@@ -6,12 +6,11 @@ ghost use Rattle.pcap_io.specs.Limits.{off_head2_size};
 ghost use Rattle.frame_runs.specs.Engine.{AreRuns, DoRise};
 ghost use Rattle.gro.specs.Slots.{packet_of, IsHeld, AreHeld};
 
-use crate::rounds_in_turn::writing::FILE;
+use crate::rounds_in_turn::writing::{FILE, write_item};
 use frags::{Outcomes, PieceBuilder, Pieces};
 use frame_runs::Engine;
 use gro::{Packets, Slot};
 use gro_table::{Item, Packet, RoundTable};
-use item_records::write_item;
 use off_io::{MemSink, WriteFault};
 use raw_block::Sole;
 use records::write_runs;
@@ -224,11 +223,6 @@ fn free_all(items: Vec<Item>) {
     items.destroy_empty();
 }
 
-fn put(rt: &impl Abort, sink: &mut MemSink, item: &Item) {
-    assert!(rt; item.original < 1000 && item.skb.len() < 1000);
-    assert!(rt; write_item(sink, &FILE, 4, item) == Ok(()));
-}
-
 /// The same bytes are written of the items that a table makes of the same packets.
 #[test]
 fn runs_are_written_as_their_items(rt: HostRuntime) {
@@ -237,7 +231,7 @@ fn runs_are_written_as_their_items(rt: HostRuntime) {
     assert!(rt; items.len() == 2);
     let mut sink = MemSink::new(alloc, 64, Vec::new(alloc));
     for item in &items {
-        put(&rt, &mut sink, item);
+        assert!(rt; write_item(&rt, &mut sink, item) == Ok(()));
     }
     assert!(rt; sink.bytes() == wanted(&rt, alloc).as_slice());
     free_all(items);
