@@ -16,7 +16,9 @@ use Rattle.lane_crew.specs.declared.tasks.LaneDone.{LaneDone}
 use Rattle.lane_crew.specs.declared.tasks.LaneDone.TheVariants as answered
 use Rattle.tap_filter.specs.declared.instr.Instr.{Instr}
 use Rattle.lanes.specs.Lanes.{DidQueue, DidTap}
-use Rattle.lane_crew.specs.LaneWork.{QueueWork, TapWork, queue_work, tap_work}
+use Rattle.lane_crew.specs.declared.loads.QueueLoad.{QueueLoad}
+use Rattle.lane_crew.specs.declared.loads.TapLoad.{TapLoad}
+use Rattle.lane_crew.specs.Loads.{queue_load, tap_load}
 use Rattle.lane_crew.specs.Tasks.{DidLane, IsOfQueues, IsOfTaps, IsOf, IsElseQueue, IsElseTap, Parted, SentQueues, SentTaps, Away, HasPlace, IsPlaced, IsPut}
 use Rattle.lanes.specs.Work.{Did}
 use Rattle.lanes.proofs.Listing.{any_other, all_behind, all_front, all_rear, all_turned}
@@ -93,15 +95,14 @@ turned_taps plan l (asked.Queue t) h = absurd h
 turned_taps plan l (asked.Tap t) h = h
 
 -- the lane at a place went away
-pub own_queue : (segs at : ℕ) (old now : List QueueLane) (x lane : QueueLane) (giver : Option GiverState) (t : QueueWork) → t ≡ queue_work at lane segs giver → lane ≡ get_or now at x → get_or now at x ≡ get_or old at x
+pub own_queue : (segs at : ℕ) (old now : List QueueLane) (x : QueueLane) (giver : Option GiverState) (t : QueueLoad) → t ≡ queue_load at (get_or now at x) segs giver → get_or now at x ≡ get_or old at x
     → at < length old → IsOfQueues segs old (asked.Queue t)
-own_queue segs at old now x lane giver t e is same lt = subst (λ z. IsOfQueues segs old (asked.Queue z)) (sym e) (lt, refl, λ d. is ∙ same ∙ any_other old at x d lt)
+own_queue segs at old now x giver t e same lt = subst (λ z. IsOfQueues segs old (asked.Queue z)) (sym e) (lt, refl, λ d. same ∙ any_other old at x d lt)
 
-pub own_tap : (plan : LanePlan) (at : ℕ) (old now : List TapLane) (x lane : TapLane) (filter : Option (List Instr)) (giver : Option GiverState) (t : TapWork) → t ≡ tap_work at lane plan.snap filter giver
+pub own_tap : (plan : LanePlan) (at : ℕ) (old now : List TapLane) (x : TapLane) (filter : Option (List Instr)) (giver : Option GiverState) (t : TapLoad) → t ≡ tap_load at (get_or now at x) plan.snap filter giver
     → filter ≡ plan.filter
-    → lane ≡ get_or now at x
     → get_or now at x ≡ get_or old at x → at < length old → IsOfTaps plan old (asked.Tap t)
-own_tap plan at old now x lane filter giver t e shown is same lt = subst (λ z. IsOfTaps plan old (asked.Tap z)) (sym e) (lt, refl, shown, λ d. is ∙ same ∙ any_other old at x d lt)
+own_tap plan at old now x filter giver t e shown same lt = subst (λ z. IsOfTaps plan old (asked.Tap z)) (sym e) (lt, refl, shown, λ d. same ∙ any_other old at x d lt)
 
 -- the queues went away, and then the taps
 pub all_away : (plan : LanePlan) (old new : Lanes) (qs : List QueueLane) (ls : List TapLane) (before mid after : List LaneTask) → before ≡ [] → new.queues.items ≡ qs → new.taps.items ≡ ls

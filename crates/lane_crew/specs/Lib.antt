@@ -1,4 +1,4 @@
 pub mod Desks
 pub mod Givers
-pub mod LaneWork
+pub mod Loads
 pub mod Tasks

@@ -11,15 +11,13 @@ ghost use Rattle.lanes.specs.Lanes.{IsFilled, IsTapReady};
 ghost use Rattle.lane_crew.specs.Tasks.{DidLane, SentQueues, SentTaps, Away, HasPlace, IsPlaced, IsPut};
 ghost use Rattle.lanes.specs.Work.{Did};
 
-use crate::giving::{carry, take_back};
+use crate::giving::take_back;
+use crate::loads::SpareLoads;
 use crate::tasks::{LaneDone, LaneJob, LaneTask, QueueTask, WatchTask};
 use block_pool::Giver;
-use core::mem::replace;
+use core::mem::swap;
 use errands::Job;
-use lanes::{
-    LanePlan, Lanes, QueueLane, SharedProgram, TapLane, free_queue, free_tap, have_short_frames,
-    program_in, share_in, watch, work,
-};
+use lanes::{LanePlan, Lanes, QueueLane, TapLane, have_short_frames, program_in, watch, work};
 use off_io::Gate;
 use std::collections::VecDeque;
 use std::sync::Wait;
@@ -48,41 +46,13 @@ pub(crate) fn count_to_share(lanes: &Lanes) -> usize {
     count_at_work(lanes)
 }
 
-// The lane leaves its place. What stays there is idle.
-fn take_queue(lane: &mut QueueLane) -> QueueLane
-    ensures same { result ≡ lane.old }
-{
-    let alloc = lane.packets.allocator();
-    let idle = QueueLane::new(alloc, lane.queue);
-    replace(lane, idle)
-}
-
-// The same of a tap.
-fn take_tap(lane: &mut TapLane) -> TapLane
-    ensures same { result ≡ lane.old }
-{
-    let alloc = *lane.clones.allocator();
-    let idle = TapLane::new(alloc, lane.tap);
-    replace(lane, idle)
-}
-
-// What the task of a queue that is at work carries. None where it isn't at work, or where there is no memory for its
-// part: then it is no task.
-fn part_if(is_at_work: bool, giver: &mut Option<Giver>, among: usize) -> Option<Option<Giver>>
-    ensures carried { MatchOption result (giver.new ≡ giver.old) (Carries (max 1 among) giver.old giver.new) }
-{
-    if !is_at_work {
-        return None;
-    }
-    carry(giver, among).ok()
-}
-
 // The queues that have packets go away as tasks, each with its part of the list. The others are worked here.
 fn send_queues<G: Gate>(
     gate: &G,
     segs: u32,
     queues: &mut [QueueLane],
     at_work: usize,
+    spare: &mut SpareLoads,
     tasks: &mut VecDeque<LaneTask>,
     giver: &mut Option<Giver>,
 )
@@ -97,38 +67,14 @@ fn send_queues<G: Gate>(
     ensures room { deque_capacity tasks.new ≡ deque_capacity tasks.old }
 {
     for at in 0..queues.len() {
-        let is_at_work = !queues[at].packets.is_empty();
-        match part_if(is_at_work, giver, at_work.saturating_sub(tasks.len())) {
-            Some(part) => {
-                let lane = take_queue(&mut queues[at]);
-                tasks.push_back_reserved(LaneTask::Queue(QueueTask::new(at, lane, segs, part)));
+        let among = at_work.saturating_sub(tasks.len());
+        match spare.load_queue(&queues[at], giver, among) {
+            Some(load) => {
+                let task = QueueTask::send(load, at, &mut queues[at], segs);
+                tasks.push_back_reserved(LaneTask::Queue(task));
             }
             None => work(gate, segs, &mut queues[at]),
         }
-    }
-}
-
-// What a tap's task has of the filter, and what it carries. None where there is nothing to read, or no memory for its
-// part: then it is no task.
-fn load_for(
-    lane: &TapLane,
-    plan: &LanePlan,
-    giver: &mut Option<Giver>,
-    among: usize,
-) -> Option<(Option<SharedProgram>, Option<Giver>)>
-    ensures same { IfSome result (λ load. load.0 ≡ plan.now.filter) }
-    ensures carried { MatchOption result (giver.new ≡ giver.old)
-        (λ load. Carries (max 1 among) giver.old giver.new load.1) }
-{
-    if lane.clones.is_empty() {
-        return None;
-    }
-    let Ok(filter) = share_in(&plan.filter) else {
-        return None;
-    };
-    match carry(giver, among) {
-        Ok(part) => Some((filter, part)),
-        Err(_) => None,
     }
 }
 
@@ -138,6 +84,7 @@ fn send_taps<G: Gate>(
     plan: &LanePlan,
     taps: &mut [TapLane],
     at_work: usize,
+    spare: &mut SpareLoads,
     tasks: &mut VecDeque<LaneTask>,
     giver: &mut Option<Giver>,
 )
@@ -151,10 +98,9 @@ fn send_taps<G: Gate>(
 {
     for at in 0..taps.len() {
         let among = at_work.saturating_sub(tasks.len());
-        match load_for(&taps[at], plan, giver, among) {
-            Some((filter, part)) => {
-                let lane = take_tap(&mut taps[at]);
-                let task = WatchTask::new(at, lane, plan.snap, filter, part);
+        match spare.load_tap(&taps[at], plan, giver, among) {
+            Some(load) => {
+                let task = WatchTask::send(load, at, &mut taps[at], plan.snap);
                 tasks.push_back_reserved(LaneTask::Tap(task));
             }
             None => watch(gate, plan.snap, program_in(&plan.filter), &mut taps[at]),
@@ -168,6 +114,7 @@ pub(crate) fn send_all<G: Gate>(
     gate: &G,
     plan: &LanePlan,
     lanes: &mut Lanes,
+    spare: &mut SpareLoads,
     tasks: &mut VecDeque<LaneTask>,
     giver: &mut Option<Giver>,
 )
@@ -181,12 +128,26 @@ pub(crate) fn send_all<G: Gate>(
 {
     let all = lanes.queues.len().saturating_add(lanes.taps.len());
     let at_work = count_at_work(lanes).min(all);
-    send_queues(gate, plan.segs, &mut lanes.queues, at_work, tasks, giver);
-    send_taps(gate, plan, &mut lanes.taps, at_work, tasks, giver);
+    send_queues(
+        gate,
+        plan.segs,
+        &mut lanes.queues,
+        at_work,
+        spare,
+        tasks,
+        giver,
+    );
+    send_taps(gate, plan, &mut lanes.taps, at_work, spare, tasks, giver);
 }
 
 // A lane comes back to its place, and what its task carried.
-fn put_back<R: Wait>(rt: &R, lanes: &mut Lanes, done: LaneDone, giver: &mut Option<Giver>)
+fn put_back<R: Wait>(
+    rt: &R,
+    lanes: &mut Lanes,
+    done: LaneDone,
+    spare: &mut SpareLoads,
+    giver: &mut Option<Giver>,
+)
     requires place { HasPlace lanes.old done }
     requires may { MayJoin giver.old (back_of done) }
     ensures put { IsPut done lanes.old lanes.new }
@@ -194,14 +155,16 @@ fn put_back<R: Wait>(rt: &R, lanes: &mut Lanes, done: LaneDone, giver: &mut Opti
 {
     match done {
         LaneDone::Queue(done) => {
-            let (at, lane, back) = done.open();
-            free_queue(replace(&mut lanes.queues[at], lane));
-            take_back(rt, giver, back);
+            let mut load = done.open();
+            swap(&mut lanes.queues[load.at], &mut load.lane);
+            take_back(rt, giver, load.giver.take());
+            spare.put_queue(load);
         }
         LaneDone::Tap(done) => {
-            let (at, lane, back) = done.open();
-            free_tap(replace(&mut lanes.taps[at], lane));
-            take_back(rt, giver, back);
+            let mut load = done.open();
+            swap(&mut lanes.taps[load.at], &mut load.lane);
+            take_back(rt, giver, load.giver.take());
+            spare.put_tap(load);
         }
     }
 }
@@ -210,6 +173,7 @@ fn put_back<R: Wait>(rt: &R, lanes: &mut Lanes, done: LaneDone, giver: &mut Opti
 pub(crate) fn bring_back<R: Wait>(
     rt: &R,
     lanes: &mut Lanes,
+    spare: &mut SpareLoads,
     done: &mut VecDeque<LaneDone>,
     giver: &mut Option<Giver>,
 )
@@ -222,7 +186,7 @@ pub(crate) fn bring_back<R: Wait>(
     ensures none { done.new.items ≡ [] }
 {
     while let Some(answer) = done.pop_front() {
-        put_back(rt, lanes, answer, giver);
+        put_back(rt, lanes, answer, spare, giver);
     }
 }
 
@@ -231,6 +195,7 @@ pub(crate) fn work_here<G: Gate, R: Wait>(
     gate: &G,
     rt: &R,
     lanes: &mut Lanes,
+    spare: &mut SpareLoads,
     tasks: &mut VecDeque<LaneTask>,
     giver: &mut Option<Giver>,
 )
@@ -243,6 +208,6 @@ pub(crate) fn work_here<G: Gate, R: Wait>(
 {
     let job = LaneJob { gate, rt };
     while let Some(task) = tasks.pop_front() {
-        put_back(rt, lanes, job.run(task), giver);
+        put_back(rt, lanes, job.run(task), spare, giver);
     }
 }

@@ -7,6 +7,7 @@ ghost use Rattle.lanes.specs.Filling.{AreReady};
 ghost use Rattle.lanes.specs.Work.{Did};
 
 use crate::away::{bring_back, count_to_share, send_all, work_here};
+use crate::loads::SpareLoads;
 use crate::tasks::{LaneDone, LaneJob, LaneTask};
 use block_pool::Giver;
 use crossbeam_queue::ArrayQueue;
@@ -83,6 +84,8 @@ pub struct LaneCrew<'a, 'g, G: Gate, N: Naming, R: Wait> {
     // Both are empty between rounds.
     tasks: VecDeque<LaneTask>,
     done: VecDeque<LaneDone>,
+    // Between rounds all loads are here.
+    spare: SpareLoads,
 }
 
 impl<'a, 'g, G: Gate, N: Naming, R: Wait> Model for LaneCrew<'a, 'g, G, N, R> {
@@ -121,6 +124,7 @@ impl<'a, 'g, G: Gate, N: Naming, R: Wait> LaneCrew<'a, 'g, G, N, R> {
             rt: job.rt,
             tasks,
             done,
+            spare: SpareLoads::new(alloc),
         })
     }
 }
@@ -132,6 +136,7 @@ fn run_by_tasks<G: Gate, N: Naming, R: Wait>(
     rt: &R,
     plan: &LanePlan,
     lanes: &mut Lanes,
+    spare: &mut SpareLoads,
     tasks: &mut VecDeque<LaneTask>,
     done: &mut VecDeque<LaneDone>,
     giver: &mut Option<Giver>,
@@ -143,10 +148,10 @@ fn run_by_tasks<G: Gate, N: Naming, R: Wait>(
     ensures gave { MayGive giver.old giver.new }
     ensures none { (tasks.new.items ≡ []) × (done.new.items ≡ []) }
 {
-    send_all(gate, plan, lanes, tasks, giver);
+    send_all(gate, plan, lanes, spare, tasks, giver);
     match crew.do_tasks(tasks, done) {
-        Ok(()) => bring_back(rt, lanes, done, giver),
-        Err(_) => work_here(gate, rt, lanes, tasks, giver),
+        Ok(()) => bring_back(rt, lanes, spare, done, giver),
+        Err(_) => work_here(gate, rt, lanes, spare, tasks, giver),
     }
 }
 
@@ -177,6 +182,7 @@ impl<G: Gate, N: Naming, R: Wait> Works for LaneCrew<'_, '_, G, N, R> {
                 self.rt,
                 plan,
                 lanes,
+                &mut self.spare,
                 &mut self.tasks,
                 &mut self.done,
                 giver,

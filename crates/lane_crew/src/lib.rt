@@ -32,15 +32,18 @@
 //! let desk = open_desk(alloc, count_runners(&rt, 6))?;
 //! ```
 //!
-//! Its parts: `giving` (a list that is lent, in parts and as one again), `tasks` (lanes as tasks), `away` (out to the
-//! desk and back) and `crew`.
+//! Its parts: `giving` (a list that is lent, in parts and as one again), `loads` (the boxes that tasks carry), `tasks`
+//! (lanes as tasks), `away` (out to the desk and back) and `crew`.
 //!
 //! Tests: `engine_tests`, module `rounds_in_turn::working`.
 //!
 //! Why so:
 //!
-//! - **As a task a lane moves**, with its place among its kind, and comes back to that place: so answers may come in
-//!   any order, and lanes with nothing to do stay where they are.
+//! - **As a task a lane leaves its place in a box**, with the number of that place, and comes back to it: so answers
+//!   may come in any order, and lanes with nothing to do stay where they are.
+//! - **What goes over the desk is the box's address**: a task, its answer and the note with it are moved some forty
+//!   times a round. A box is made when a lane first goes away, and has an idle lane until the next one does, against
+//!   which that is swapped: so a round takes no memory for it, and clears none.
 //! - **A task carries its filter by a count** (`SharedProgram`), and not by a loan: tasks outlive each call, so what
 //!   they hold has to be their own.
 //! - **What is lent is counted whole, wherever it is** (`Divided` in `specs/Givers`): what is at hand and what tasks
@@ -53,6 +56,7 @@
 mod away;
 mod crew;
 mod giving;
+mod loads;
 mod tasks;
 
 pub use crew::{LANES, LaneCrew, LaneDesk, count_runners, open_desk, serve_lanes};

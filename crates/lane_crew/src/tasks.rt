@@ -2,85 +2,76 @@
 ghost use Rattle.std.specs.Prelude.{◌≡◌};
 ghost use Rattle.block_pool.specs.Giving.{LeavesNone, MayGive};
 ghost use Rattle.lanes.specs.Lanes.{DidQueue, DidTap, IsFilled, IsTapReady};
-ghost use Rattle.lane_crew.specs.LaneWork.{queue_work, tap_work};
+ghost use Rattle.lane_crew.specs.Loads.{queue_load, tap_load};
 
-use block_pool::Giver;
+use crate::loads::{QueueLoad, TapLoad};
+use core::mem::{size_of, swap};
 use errands::Job;
-use lanes::{
-    QueueLane, SharedProgram, TapLane, free_queue, free_tap, give_back, program_in, watch, work,
-};
+use lanes::{QueueLane, TapLane, give_back, program_in, watch, work};
 use off_io::Gate;
 use std::marker::Model;
 use std::sync::Wait;
 
-/// A queue's lane with what it has to do, and what gives blocks back once that is done. One that is dropped frees its
-/// blocks.
+/// A queue's lane with what it has to do, and what gives blocks back once that is done.
+#[derive(Drop)]
 pub struct QueueTask {
-    // Its place among the queues.
-    at: usize,
-    /// With the packets that it is to merge.
-    lane: QueueLane,
-    /// How many packets a run may have.
-    segs: u32,
-    /// With this lane's part of the list that goes back; None where it got none.
-    giver: Option<Giver>,
+    load: Box<QueueLoad>,
 }
 
 impl Model for QueueTask {
+    ghost use Rattle.lane_crew.specs.declared.loads.QueueLoad.{QueueLoad};
     ghost use Rattle.lanes.specs.Lanes.{IsFilled};
-    ghost use Rattle.lane_crew.specs.LaneWork.{QueueWork, queue_work};
 
-    ghost Value = { QueueWork };
+    ghost Value = { QueueLoad };
 
-    ghost view = { λ t. queue_work t.at t.lane t.segs t.giver };
+    ghost view = { λ t. t.load.value };
 
-    ghost invariant = { λ t. IsFilled t.lane };
+    ghost invariant = { λ t. IsFilled t.load.value.lane };
 }
 
-/// A tap's lane with the clones that it has to read, and what gives blocks back once they are read. One that is dropped
-/// frees its blocks.
+/// A tap's lane with the clones that it has to read, and what gives blocks back once they are read.
+#[derive(Drop)]
 pub struct WatchTask {
-    // Its place among the taps.
-    at: usize,
-    /// With the clones that it is to read.
-    lane: TapLane,
-    /// The bytes of a window.
-    snap: u32,
-    /// What is shown of each packet: as many bytes as its value. All where there is none.
-    filter: Option<SharedProgram>,
-    /// With this lane's part of the list that goes back; None where it got none.
-    giver: Option<Giver>,
+    load: Box<TapLoad>,
 }
 
 impl Model for WatchTask {
+    ghost use Rattle.lane_crew.specs.declared.loads.TapLoad.{TapLoad};
     ghost use Rattle.lanes.specs.Lanes.{IsTapReady};
-    ghost use Rattle.lane_crew.specs.LaneWork.{TapWork, tap_work};
 
-    ghost Value = { TapWork };
+    ghost Value = { TapLoad };
 
-    ghost view = { λ t. tap_work t.at t.lane t.snap t.filter t.giver };
+    ghost view = { λ t. t.load.value };
 
-    ghost invariant = { λ t. IsTapReady t.lane };
+    ghost invariant = { λ t. IsTapReady t.load.value.lane };
 }
 
-/// A queue's lane once its work is done. One that is dropped frees its blocks.
+/// A queue's lane once its work is done.
+#[derive(Drop)]
 pub struct QueueDone {
-    /// The lane's place among the queues.
-    at: usize,
-    /// With its packets, and their runs.
-    lane: QueueLane,
-    /// The task's, with what found no place.
-    giver: Option<Giver>,
+    load: Box<QueueLoad>,
 }
 
-/// A tap's lane once its clones are read. One that is dropped frees its blocks.
+impl Model for QueueDone {
+    ghost use Rattle.lane_crew.specs.declared.loads.QueueLoad.{QueueLoad};
+
+    ghost Value = { QueueLoad };
+
+    ghost view = { λ d. d.load.value };
+}
+
+/// A tap's lane once its clones are read.
+#[derive(Drop)]
 pub struct TapDone {
-    /// The lane's place among the taps.
-    at: usize,
-    /// With the windows that it read, and what its clones left.
-    lane: TapLane,
-    /// The task's, with what found no place.
-    giver: Option<Giver>,
+    load: Box<TapLoad>,
+}
+
+impl Model for TapDone {
+    ghost use Rattle.lane_crew.specs.declared.loads.TapLoad.{TapLoad};
+
+    ghost Value = { TapLoad };
+
+    ghost view = { λ d. d.load.value };
 }
 
 /// What one lane has to do.
@@ -97,64 +88,25 @@ pub enum LaneDone {
     Tap(TapDone),
 }
 
-impl Drop for QueueTask {
-    fn drop(self) {
-        let QueueTask {
-            at: _,
-            lane,
-            segs: _,
-            giver: _giver,
-        } = self;
-        free_queue(lane);
-    }
-}
-
-impl Drop for WatchTask {
-    fn drop(self) {
-        let WatchTask {
-            at: _,
-            lane,
-            snap: _,
-            filter: _filter,
-            giver: _giver,
-        } = self;
-        free_tap(lane);
-    }
-}
-
-impl Drop for QueueDone {
-    fn drop(self) {
-        let QueueDone {
-            at: _,
-            lane,
-            giver: _giver,
-        } = self;
-        free_queue(lane);
-    }
-}
-
-impl Drop for TapDone {
-    fn drop(self) {
-        let TapDone {
-            at: _,
-            lane,
-            giver: _giver,
-        } = self;
-        free_tap(lane);
-    }
-}
+// What goes over the desk is an address and which it is.
+const _: () = prove!(size_of::<LaneTask>() <= 16 && size_of::<LaneDone>() <= 16);
 
 impl QueueTask {
-    pub(crate) fn new(at: usize, lane: QueueLane, segs: u32, giver: Option<Giver>) -> QueueTask
-        requires filled { IsFilled lane }
-        ensures same { result ≡ queue_work at lane segs giver }
+    /// The lane leaves its place with a load. What stays there is what the load had.
+    pub(crate) fn send(
+        load: Box<QueueLoad>,
+        at: usize,
+        lane: &mut QueueLane,
+        segs: u32,
+    ) -> QueueTask
+        requires filled { IsFilled lane.old }
+        ensures same { result ≡ queue_load at lane.old segs load.value.giver }
     {
-        QueueTask {
-            at,
-            lane,
-            segs,
-            giver,
-        }
+        let mut load = load;
+        load.at = at;
+        load.segs = segs;
+        swap(&mut load.lane, lane);
+        QueueTask { load }
     }
 
     fn run<G: Gate, R: Wait>(self, gate: &G, rt: &R) -> QueueDone
@@ -163,36 +115,25 @@ impl QueueTask {
         ensures gave { MayGive self.giver result.giver }
         ensures none_left { LeavesNone self.giver result.giver }
     {
-        let QueueTask {
-            at,
-            mut lane,
-            segs,
-            mut giver,
-        } = self;
-        work(gate, segs, &mut lane);
-        give_back(rt, &mut giver);
-        QueueDone { at, lane, giver }
+        let QueueTask { mut load } = self;
+        let own = &mut *load;
+        work(gate, own.segs, &mut own.lane);
+        give_back(rt, &mut own.giver);
+        QueueDone { load }
     }
 }
 
 impl WatchTask {
-    pub(crate) fn new(
-        at: usize,
-        lane: TapLane,
-        snap: u32,
-        filter: Option<SharedProgram>,
-        giver: Option<Giver>,
-    ) -> WatchTask
-        requires ready { IsTapReady lane }
-        ensures same { result ≡ tap_work at lane snap filter giver }
+    /// The lane leaves its place with a load. What stays there is what the load had.
+    pub(crate) fn send(load: Box<TapLoad>, at: usize, lane: &mut TapLane, snap: u32) -> WatchTask
+        requires ready { IsTapReady lane.old }
+        ensures same { result ≡ tap_load at lane.old snap load.value.filter load.value.giver }
     {
-        WatchTask {
-            at,
-            lane,
-            snap,
-            filter,
-            giver,
-        }
+        let mut load = load;
+        load.at = at;
+        load.snap = snap;
+        swap(&mut load.lane, lane);
+        WatchTask { load }
     }
 
     fn run<G: Gate, R: Wait>(self, gate: &G, rt: &R) -> TapDone
@@ -201,34 +142,29 @@ impl WatchTask {
         ensures gave { MayGive self.giver result.giver }
         ensures none_left { LeavesNone self.giver result.giver }
     {
-        let WatchTask {
-            at,
-            mut lane,
-            snap,
-            filter,
-            mut giver,
-        } = self;
-        watch(gate, snap, program_in(&filter), &mut lane);
-        give_back(rt, &mut giver);
-        TapDone { at, lane, giver }
+        let WatchTask { mut load } = self;
+        let own = &mut *load;
+        watch(gate, own.snap, program_in(&own.filter), &mut own.lane);
+        give_back(rt, &mut own.giver);
+        TapDone { load }
     }
 }
 
 impl QueueDone {
-    pub(crate) fn open(self) -> (usize, QueueLane, Option<Giver>)
-        ensures same { (result.0 ≡ self.at) × (result.1 ≡ self.lane) × (result.2 ≡ self.giver) }
+    pub(crate) fn open(self) -> Box<QueueLoad>
+        ensures same { result.value ≡ self }
     {
-        let QueueDone { at, lane, giver } = self;
-        (at, lane, giver)
+        let QueueDone { load } = self;
+        load
     }
 }
 
 impl TapDone {
-    pub(crate) fn open(self) -> (usize, TapLane, Option<Giver>)
-        ensures same { (result.0 ≡ self.at) × (result.1 ≡ self.lane) × (result.2 ≡ self.giver) }
+    pub(crate) fn open(self) -> Box<TapLoad>
+        ensures same { result.value ≡ self }
     {
-        let TapDone { at, lane, giver } = self;
-        (at, lane, giver)
+        let TapDone { load } = self;
+        load
     }
 }
 
