@@ -87,6 +87,11 @@ impl Bells {
         })
     }
 
+    /// How many run tasks beside who asks.
+    pub fn runners(&self) -> usize {
+        self.runners.len()
+    }
+
     /// Wakes all who run tasks.
     pub fn ring(&self) {
         for bell in &self.runners {

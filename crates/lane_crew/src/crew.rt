@@ -13,7 +13,7 @@ use block_pool::Giver;
 use crossbeam_queue::ArrayQueue;
 use errands::{Asker, Bells, Crew, Errands, Job, Naming, Reply, Runner, Works as DoesTasks, serve};
 use gro::Packets;
-use lanes::{FrameLengths, LanePlan, Lanes, Works, give_back, run_and_give};
+use lanes::{FrameLengths, LanePlan, Lanes, SOME_PACKETS, Works, give_back, run_and_give};
 use off_io::{Gate, Who};
 use std::alloc::{AllocError, Global};
 use std::collections::VecDeque;
@@ -24,6 +24,9 @@ use std::thread::{Threads, for_each_mut};
 
 /// The lanes of a round, at most: 64 queues and 8 taps.
 pub const LANES: usize = 72;
+
+/// Of more packets the first ones have left the cache by the time that the next tap would read them.
+const MANY_PACKETS: usize = 256;
 
 /// A desk for the tasks of lanes, before the call that names it: who asks, who runs tasks, and who wakes whom.
 #[derive(Drop)]
@@ -81,6 +84,8 @@ pub struct LaneCrew<'a, 'g, G: Gate, N: Naming, R: Wait> {
     gate: &'g G,
     /// By which this thread gives lists of blocks back.
     rt: &'g R,
+    // How many run tasks beside it.
+    beside: u32,
     // Both are empty between rounds.
     tasks: VecDeque<LaneTask>,
     done: VecDeque<LaneDone>,
@@ -115,6 +120,7 @@ impl<'a, 'g, G: Gate, N: Naming, R: Wait> LaneCrew<'a, 'g, G, N, R> {
         requires none { asker.log ≡ [] }
         ensures own { IfOk result (λ crew. crew ≡ N.desk) }
     {
+        let beside = bells.runners().min(LANES) as u32;
         let places = Vec::with_capacity(alloc, LANES)?;
         let tasks = VecDeque::with_capacity(alloc, LANES)?;
         let done = VecDeque::with_capacity(alloc, LANES)?;
@@ -122,6 +128,7 @@ impl<'a, 'g, G: Gate, N: Naming, R: Wait> LaneCrew<'a, 'g, G, N, R> {
             crew: Crew::new(rt, errands, replies, job, bells, asker, own, places),
             gate: job.gate,
             rt: job.rt,
+            beside,
             tasks,
             done,
             spare: SpareLoads::new(alloc),
@@ -165,6 +172,19 @@ impl<G: Gate, N: Naming, R: Wait> Works for LaneCrew<'_, '_, G, N, R> {
         let mut lengths = FrameLengths::new();
         lengths.add(packets);
         lengths.are_short()
+    }
+
+    // A clone for a tap that no thread is free for costs more than to read its window here. One tap is read beside the
+    // work at least, and all where there are too few packets to tell.
+    fn taps_beside(&self, plan: &LanePlan, packets: &Packets) -> u32 {
+        if self.reads_here(packets) {
+            return 0;
+        }
+        if packets.len() < SOME_PACKETS || packets.len() > MANY_PACKETS {
+            return plan.taps;
+        }
+        let threads = self.beside.saturating_add(1);
+        threads.saturating_sub(plan.queues).max(1)
     }
 
     fn pass(&self, tap: u32, point: u32) {

@@ -1,6 +1,6 @@
 -- Lanes that hold nothing.
 
-use Rattle.std.proofs.Common.{◌≡◌, ℕ, zero, suc, List, [], ◌∷◌, refl, ap, arith, length}
+use Rattle.std.proofs.Common.{◌≡◌, ℕ, zero, suc, List, [], ◌∷◌, get_or, refl, ap, arith, length}
 use Rattle.std.specs.Prelude.{All, Bool, Ok}
 use Rattle.frags.specs.Account.{Tests, receipts_held, soles_home}
 use Rattle.gro.specs.Slots.{of_packets, counts_of, weighed_slots}
@@ -62,8 +62,11 @@ idle_weighed w (l ∷ ls) h =
     let s = h zero l (omega arith) in
     omega (arith, ap (weighed_slots w) s.packets, idle_weighed w ls (λ j d lt. h (suc j) d (omega (arith, lt))))
 
+pub ready_tap : (l : TapLane) → IsIdleTap l → IsTapReady l
+ready_tap l h = omega (arith, ap blocks_of h.clones)
+
 pub idle_ready : (ls : List TapLane) → All IsIdleTap ls → All IsTapReady ls
-idle_ready ls h i d lt = omega (arith, ap blocks_of (h i d lt).clones)
+idle_ready ls h i d lt = ready_tap (get_or ls i d) (h i d lt)
 
 pub idle_clones : (ls : List TapLane) → All IsIdleTap ls → All (λ (l : TapLane). l.clones.items ≡ []) ls
 idle_clones ls h i d lt = (h i d lt).clones

@@ -17,15 +17,15 @@ use Rattle.lanes.specs.declared.lane.QueueLane.{QueueLane}
 use Rattle.lanes.specs.declared.lane.TapLane.{TapLane}
 use Rattle.lanes.specs.declared.lane.Lanes.{Lanes}
 use Rattle.lanes.specs.declared.plan.LanePlan.{LanePlan}
-use Rattle.lanes.specs.Lanes.{of_queues, of_taps, of_lanes, counts_of_queues, weighed_queues, AreIdle, IsFilled, IsIdleQueue, IsIdleTap, IsMerged}
+use Rattle.lanes.specs.Lanes.{of_queues, of_taps, of_lanes, counts_of_queues, weighed_queues, AreIdle, EachTapDid, IsFilled, IsIdleQueue, IsIdleTap, IsMerged}
 use Rattle.lanes.specs.Sharing.{EachFrom, IsSum}
 use Rattle.lanes.specs.Soles.{AreOfPackets}
-use Rattle.lanes.specs.Work.{spread_of, options_by, shown_by, AreFilled, AreUnshared, DidAll, DidTaps, Fills, IsDone, IsRefused, IsToWork, IsUncloned, IsWorked, IsWatched, MayWatch, AreMerged, AreWatched, merged_in, lane_records, records_of_tap}
+use Rattle.lanes.specs.Work.{spread_of, options_by, shown_by, AreFilled, AreUnshared, Did, Fills, IsDone, IsRefused, IsToWork, IsUncloned, IsWorked, IsWatched, MayWatch, AreMerged, AreWatched, merged_in, lane_records, records_of_tap}
 use Rattle.lanes.proofs.Apart.{are_of_packets}
 use Rattle.lanes.proofs.Listing.{all_from, each_map, each_equal}
 use Rattle.lanes.proofs.Idle.{idle_clones, idle_lanes, idle_queues}
 use Rattle.lanes.proofs.Sharing.{idle_alone}
-use Rattle.lanes.proofs.Worked.{all_worked, all_watched, queues_alone, queues_count, queues_same, queues_weighed, taps_blocks, taps_kept, queue_records, tap_records}
+use Rattle.lanes.proofs.Worked.{all_spent, all_stay, all_worked, all_watched, queues_alone, queues_count, queues_same, queues_weighed, taps_blocks, taps_kept, queue_records, tap_records}
 
 -- ---- what is held while lanes are filled
 
@@ -139,7 +139,14 @@ all_filled n ps ls h = all_from (IsToWork n ps) IsFilled 0 ls (λ q l w. w.fille
 
 -- ---- a round that is done
 
--- taps that read clones, or that had read before
+-- taps of which some read clones, or that had all read before
+abbrev pub DidTaps : Bool → LanePlan → List TapLane → List TapLane → Type 0
+DidTaps true plan ls ms = EachTapDid plan.filter plan.snap ls ms
+DidTaps false plan ls ms = ms ≡ ls
+
+did_taps : (shared : Bool) (plan : LanePlan) (old : List Held) (l m : Lanes) → AreFilled shared plan old l → Did plan l m → DidTaps shared plan l.taps.items m.taps.items
+did_taps true plan old l m f d = d.taps
+did_taps false plan old l m f d = all_stay plan.filter plan.snap (shown_by plan (map packet_of old)) 0 l.taps.items m.taps.items d.sizes.1 f.taps d.taps
 
 held_taps : (shared : Bool) (plan : LanePlan) (ls ms : List TapLane) → length ms ≡ length ls → DidTaps shared plan ls ms → Keeps (of_taps ls) (of_taps ms)
 held_taps true plan ls ms e d = taps_kept plan.filter plan.snap ls ms e d
@@ -149,10 +156,10 @@ blocks_of_taps : (shared : Bool) (plan : LanePlan) (ls ms : List TapLane) → le
 blocks_of_taps true plan ls ms e d = taps_blocks plan.filter plan.snap ls ms e d
 blocks_of_taps false plan ls ms e d = subst (λ (z : List TapLane). KeepsBlocks (of_taps ls) (of_taps z)) (sym d) (λ bs m. omega arith)
 
-spent_taps : (shared : Bool) (plan : LanePlan) (ls ms : List TapLane) → length ms ≡ length ls → (shared ≡ false → All IsIdleTap ls) → DidTaps shared plan ls ms
-    → All (λ (t : TapLane). t.clones.items ≡ []) ms
-spent_taps true plan ls ms e idle d = λ i x lt. (d i x (omega (arith, e, lt))).none
-spent_taps false plan ls ms e idle d = subst (All (λ (t : TapLane). t.clones.items ≡ [])) (sym d) (idle_clones ls (idle refl))
+spent_taps : (shared : Bool) (plan : LanePlan) (ps : List Packet) (ls ms : List TapLane) → length ms ≡ length ls → EachFrom (MayWatch shared plan ps) 0 ls
+    → (shared ≡ false → All IsIdleTap ls) → DidTaps shared plan ls ms → All (λ (t : TapLane). t.clones.items ≡ []) ms
+spent_taps true plan ps ls ms e h idle d = all_spent plan ps ls ms e h d
+spent_taps false plan ps ls ms e h idle d = subst (All (λ (t : TapLane). t.clones.items ≡ [])) (sym d) (idle_clones ls (idle refl))
 
 idle_taps_after : (shared : Bool) (plan : LanePlan) (ls ms : List TapLane) → length ms ≡ plan.taps → (IsUncloned shared plan → All IsIdleTap ls) → DidTaps shared plan ls ms
     → IsUncloned shared plan → All IsIdleTap ms
@@ -162,12 +169,13 @@ idle_taps_after false plan ls ms e idle d own = subst (All IsIdleTap) (sym d) (i
 
 watched_taps : (shared : Bool) (plan : LanePlan) (ps : List Packet) (ls ms : List TapLane) → length ms ≡ length ls → EachFrom (MayWatch shared plan ps) 0 ls → DidTaps shared plan ls ms
     → All (λ (m : TapLane). IsSome m.texts) ms → EachFrom (IsWatched plan.snap (shown_by plan ps)) 0 ms
-watched_taps true plan ps ls ms e h d read = all_watched plan.filter plan.snap ps ls ms e h d read
+watched_taps true plan ps ls ms e h d read = all_watched plan ps ls ms e h d read
 watched_taps false plan ps ls ms e h d read = subst (EachFrom (IsWatched plan.snap (shown_by plan ps)) 0) (sym d) h
 
 -- what the packets hold is still in the lanes
-fills_did : (shared : Bool) (plan : LanePlan) (old : List Held) (l m : Lanes) → AreFilled shared plan old l → DidAll shared plan l m → Fills shared plan old [] m
+fills_did : (shared : Bool) (plan : LanePlan) (old : List Held) (l m : Lanes) → AreFilled shared plan old l → Did plan l m → Fills shared plan old [] m
 fills_did shared plan old l m f d =
+    let taps = did_taps shared plan old l m f d in
     let e = queues_same plan.segs l.queues.items m.queues.items d.sizes.0 d.queues in
     let n = queues_count plan.segs l.queues.items m.queues.items d.sizes.0 d.queues in
     record {
@@ -175,28 +183,28 @@ fills_did shared plan old l m f d =
           let x = f.fills.kept t i in
           let y = ap (λ z. z.held t i) e in
           let w = ap (λ z. z.homes t.blocks i) e in
-          let z = held_taps shared plan l.taps.items m.taps.items d.sizes.1 d.taps t i in
+          let z = held_taps shared plan l.taps.items m.taps.items d.sizes.1 taps t i in
           (omega (arith, x.0, y, z.0), omega (arith, x.1, w, z.1));
       blocks = λ bs i.
           let x = f.fills.blocks bs i in
           let y = ap (λ z. z.held (every bs) i) e in
           let w = ap (λ z. z.homes bs i) e in
-          let z = blocks_of_taps shared plan l.taps.items m.taps.items d.sizes.1 d.taps bs i in
+          let z = blocks_of_taps shared plan l.taps.items m.taps.items d.sizes.1 taps bs i in
           omega (arith, x, y, w, z);
       count = omega (arith, f.fills.count, n);
       named = λ w. omega (arith, f.fills.named w, queues_weighed w plan.segs l.queues.items m.queues.items d.sizes.0 d.queues);
       unshared = record {
         alone = λ own h. (tt, queues_alone plan.segs l.queues.items m.queues.items d.sizes.0 d.queues (f.fills.unshared.alone own h).1);
-        idle = idle_taps_after shared plan l.taps.items m.taps.items (d.sizes.1 ∙ f.sizes.1) f.fills.unshared.idle d.taps;
+        idle = idle_taps_after shared plan l.taps.items m.taps.items (d.sizes.1 ∙ f.sizes.1) f.fills.unshared.idle taps;
       };
     }
 
-pub is_done : (shared : Bool) (plan : LanePlan) (old : List Held) (l m : Lanes) → AreFilled shared plan old l → DidAll shared plan l m → All (λ (t : TapLane). IsSome t.texts) m.taps.items
+pub is_done : (shared : Bool) (plan : LanePlan) (old : List Held) (l m : Lanes) → AreFilled shared plan old l → Did plan l m → All (λ (t : TapLane). IsSome t.texts) m.taps.items
     → IsDone shared plan old m
 is_done shared plan old l m f d read =
     let ps = map packet_of old in
     let qs = all_worked plan.segs (spread_of plan) ps l.queues.items m.queues.items d.sizes.0 f.queues d.queues in
-    let ts = watched_taps shared plan ps l.taps.items m.taps.items d.sizes.1 f.taps d.taps read in
+    let ts = watched_taps shared plan ps l.taps.items m.taps.items d.sizes.1 f.taps (did_taps shared plan old l m f d) read in
     let a : length m.queues.items ≡ plan.queues = d.sizes.0 ∙ f.sizes.0 in
     let b : length m.taps.items ≡ plan.taps = d.sizes.1 ∙ f.sizes.1 in
     record {
@@ -207,17 +215,17 @@ is_done shared plan old l m f d read =
       packets =
           each_map (IsWorked plan.segs (spread_of plan) ps) (λ q (l : QueueLane). map packet_of l.packets.items ≡ filter (is_queued (spread_of plan) q) ps) 0 m.queues.items (λ q l w. w.packets) qs;
       fills = fills_did shared plan old l m f d;
-      clones = spent_taps shared plan l.taps.items m.taps.items d.sizes.1 (λ off. f.fills.unshared.idle (inl off)) d.taps;
+      clones = spent_taps shared plan (map packet_of old) l.taps.items m.taps.items d.sizes.1 f.taps (λ off. f.fills.unshared.idle (inl off)) (did_taps shared plan old l m f d);
     }
 
-pub is_refused : (shared : Bool) (plan : LanePlan) (old : List Held) (l m : Lanes) → AreFilled shared plan old l → DidAll shared plan l m → IsRefused shared plan old [] m
+pub is_refused : (shared : Bool) (plan : LanePlan) (old : List Held) (l m : Lanes) → AreFilled shared plan old l → Did plan l m → IsRefused shared plan old [] m
 is_refused shared plan old l m f d = record {
   fills = fills_did shared plan old l m f d;
-  clones = spent_taps shared plan l.taps.items m.taps.items d.sizes.1 (λ off. f.fills.unshared.idle (inl off)) d.taps;
+  clones = spent_taps shared plan (map packet_of old) l.taps.items m.taps.items d.sizes.1 f.taps (λ off. f.fills.unshared.idle (inl off)) (did_taps shared plan old l m f d);
 }
 
 -- what taps have given back is of the packets' blocks, also after the work
-pub of_packets_after : (shared : Bool) (plan : LanePlan) (old now : List Held) (l m : Lanes) → now ≡ [] → AreFilled shared plan old l → DidAll shared plan l m → AreOfPackets now m
+pub of_packets_after : (shared : Bool) (plan : LanePlan) (old now : List Held) (l m : Lanes) → now ≡ [] → AreFilled shared plan old l → Did plan l m → AreOfPackets now m
 of_packets_after shared plan old now l m none f d =
     let r = fills_did shared plan old l m f d in
     subst (λ (z : List Held). AreOfPackets z m) (sym none) (are_of_packets old [] m.queues.items m.taps.items r.blocks r.named)

@@ -1,6 +1,6 @@
 -- Lanes whose work is done.
-use Rattle.std.proofs.Common.{◌≡◌, ℕ, zero, suc, ◌+◌, ◌<◌, ◌≤◌, Bool, List, [], ◌∷◌, ◌++◌, map, length, refl, sym, ap, ◌∙◌, subst, append-nil, arith}
-use Rattle.std.specs.Prelude.{Option, None, Some, IsSome, IfSome, All}
+use Rattle.std.proofs.Common.{◌≡◌, ℕ, zero, suc, ◌+◌, ◌<◌, ◌≤◌, Bool, List, [], ◌∷◌, ◌++◌, map, length, inl, inr, refl, sym, ap, ◌∙◌, subst, append-nil, arith}
+use Rattle.std.specs.Prelude.{true, Option, None, Some, IsSome, IfSome, All}
 use Rattle.std.specs.List.{filter, flat_map, range_with_len}
 use Rattle.pcap_io.specs.Capture.{Packet}
 use Rattle.frags.specs.Account.{Keeps, KeepsBlocks}
@@ -17,12 +17,12 @@ use Rattle.taps.specs.Texts.{texts_of, record_of_text}
 use Rattle.lanes.specs.declared.lane.QueueLane.{QueueLane}
 use Rattle.lanes.specs.declared.lane.TapLane.{TapLane}
 use Rattle.lanes.specs.Clones.{AreSame}
-use Rattle.lanes.specs.Lanes.{of_queues, of_taps, counts_of_queues, weighed_queues, DidQueue, DidTap, EachQueueDid, EachTapDid}
+use Rattle.lanes.specs.Lanes.{of_queues, of_tap, of_taps, counts_of_queues, weighed_queues, DidQueue, DidTap, DidTapOf, EachQueueDid, EachTapDid, ReadsTap}
 use Rattle.lanes.specs.Packets.{RiseFrom}
 use Rattle.lanes.specs.Sharing.{EachFrom, EachStays, HasMemory, IsSharing}
 use Rattle.lanes.specs.Taps.{HasClones}
-use Rattle.lanes.specs.Work.{IsToWork, IsWorked, IsWatched, merged_in, records_of_queue, records_of_texts, records_of_tap, Did}
-use Rattle.lanes.proofs.Listing.{each_did, each_map, refilled}
+use Rattle.lanes.specs.Work.{shown_by, IsToWork, IsWorked, IsWatched, MayWatch, merged_in, records_of_queue, records_of_texts, records_of_tap, Did}
+use Rattle.lanes.proofs.Listing.{all_from, each_did, each_map, refilled}
 use Rattle.lanes.proofs.Sharing.{few_packets, filter_map, filter_each, filter_counts, filter_rises, same_counts, same_hold, same_weighed}
 use Rattle.std.specs.Vec.{with_items}
 use Rattle.lanes.specs.declared.plan.LanePlan.{LanePlan}
@@ -84,7 +84,7 @@ shown_clones : (filter : Option (List Instr)) (cs : List TapClone) → map (show
 shown_clones filter [] = refl
 shown_clones filter (c ∷ cs) = ap (λ (z : List Packet). shown_packet filter c ∷ z) (shown_clones filter cs)
 
-watched : (filter : Option (List Instr)) (snap : ℕ) (ps : List Packet) (t : ℕ) (l m : TapLane) → HasClones ps t l → DidTap filter snap l m → IsSome m.texts
+watched : (filter : Option (List Instr)) (snap : ℕ) (ps : List Packet) (t : ℕ) (l m : TapLane) → HasClones ps t l → ReadsTap filter snap l m → IsSome m.texts
     → IsWatched snap (map (shown_of filter) ps) t m
 watched filter snap ps t l m h d s =
     let shown : map (shown_packet filter) l.clones.items ≡ map (shown_of filter) ps = shown_clones filter l.clones.items ∙ ap (map (shown_of filter)) h.clones in
@@ -99,15 +99,47 @@ watched filter snap ps t l m h d s =
           ∙ ap (windows_of snap t) shown;
     }
 
+-- a tap that has clones reads them, and one that has read stays as it is
+reads : (filter : Option (List Instr)) (snap : ℕ) (l m : TapLane) → l.texts ≡ None → DidTap filter snap l m → ReadsTap filter snap l m
+reads filter snap l m e d = subst (λ o. DidTapOf o filter snap l m) e d
+
+stays : (filter : Option (List Instr)) (snap : ℕ) (ps : List Packet) (t : ℕ) (l m : TapLane) → IsWatched snap ps t l → DidTap filter snap l m → m ≡ l
+stays filter snap ps t l m w d = subst (λ o. DidTapOf o filter snap l m) w.texts d
+
+watched_by : (plan : LanePlan) (ps : List Packet) (t : ℕ) (l m : TapLane) → MayWatch true plan ps t l → DidTap plan.filter plan.snap l m → IsSome m.texts
+    → IsWatched plan.snap (shown_by plan ps) t m
+watched_by plan ps t l m (inl h) d s = watched plan.filter plan.snap ps t l m h (reads plan.filter plan.snap l m h.unread d) s
+watched_by plan ps t l m (inr w) d s = subst (IsWatched plan.snap (shown_by plan ps) t) (sym (stays plan.filter plan.snap (shown_by plan ps) t l m w.0 d)) w.0
+
+spent_by : (plan : LanePlan) (ps : List Packet) (t : ℕ) (l m : TapLane) → MayWatch true plan ps t l → DidTap plan.filter plan.snap l m → m.clones.items ≡ []
+spent_by plan ps t l m (inl h) d = (reads plan.filter plan.snap l m h.unread d).none
+spent_by plan ps t l m (inr w) d = subst (λ (z : TapLane). z.clones.items ≡ []) (sym (stays plan.filter plan.snap (shown_by plan ps) t l m w.0 d)) w.1
+
+pub all_spent : (plan : LanePlan) (ps : List Packet) (ls ms : List TapLane) → length ms ≡ length ls → EachFrom (MayWatch true plan ps) 0 ls → EachTapDid plan.filter plan.snap ls ms
+    → All (λ (m : TapLane). m.clones.items ≡ []) ms
+all_spent plan ps ls ms e h did =
+    all_from (λ (t : ℕ) (m : TapLane). m.clones.items ≡ []) (λ m. m.clones.items ≡ []) 0 ms (λ t m own. own)
+    (each_did (MayWatch true plan ps) (λ t m. m.clones.items ≡ []) (DidTap plan.filter plan.snap) 0 ls ms (λ t l m a d. spent_by plan ps t l m a d) e h did)
+
+-- taps that have all read stay as they are
+pub all_stay : (filter : Option (List Instr)) (snap : ℕ) (ps : List Packet) (k : ℕ) (ls ms : List TapLane) → length ms ≡ length ls → EachFrom (IsWatched snap ps) k ls
+    → EachTapDid filter snap ls ms → ms ≡ ls
+all_stay filter snap ps k [] [] e h did = refl
+all_stay filter snap ps k [] (m ∷ ms) e h did = absurd (omega (arith, e))
+all_stay filter snap ps k (l ∷ ls) [] e h did = absurd (omega (arith, e))
+all_stay filter snap ps k (l ∷ ls) (m ∷ ms) e h did =
+    let first = stays filter snap ps k l m h.0 (did zero l (omega arith)) in
+    ap (λ z. z ∷ ms) first ∙ ap (λ z. l ∷ z) (all_stay filter snap ps (suc k) ls ms (omega (arith, e)) h.1 (λ j d lt. did (suc j) d (omega (arith, lt))))
+
 pub all_worked : (segs : ℕ) (n : Spread) (ps : List Packet) (ls ms : List QueueLane) → length ms ≡ length ls → EachFrom (IsToWork n ps) 0 ls → EachQueueDid segs ls ms
     → EachFrom (IsWorked segs n ps) 0 ms
 all_worked segs n ps ls ms e h did = each_did (IsToWork n ps) (IsWorked segs n ps) (DidQueue segs) 0 ls ms (λ q l m a d. worked segs n ps q l m a d) e h did
 
-pub all_watched : (filter : Option (List Instr)) (snap : ℕ) (ps : List Packet) (ls ms : List TapLane) → length ms ≡ length ls → EachFrom (HasClones ps) 0 ls → EachTapDid filter snap ls ms
-    → All (λ (m : TapLane). IsSome m.texts) ms → EachFrom (IsWatched snap (map (shown_of filter) ps)) 0 ms
-all_watched filter snap ps ls ms e h did done =
-    if_done (λ (m : TapLane). IsSome m.texts) (IsWatched snap (map (shown_of filter) ps)) 0 ms (each_did (HasClones ps) (λ t m. IsSome m.texts → IsWatched snap (map (shown_of filter) ps) t m)
-    (DidTap filter snap) 0 ls ms (λ t l m a d. watched filter snap ps t l m a d) e h did) done
+pub all_watched : (plan : LanePlan) (ps : List Packet) (ls ms : List TapLane) → length ms ≡ length ls → EachFrom (MayWatch true plan ps) 0 ls → EachTapDid plan.filter plan.snap ls ms
+    → All (λ (m : TapLane). IsSome m.texts) ms → EachFrom (IsWatched plan.snap (shown_by plan ps)) 0 ms
+all_watched plan ps ls ms e h did done =
+    if_done (λ (m : TapLane). IsSome m.texts) (IsWatched plan.snap (shown_by plan ps)) 0 ms (each_did (MayWatch true plan ps) (λ t m. IsSome m.texts → IsWatched plan.snap (shown_by plan ps) t m)
+    (DidTap plan.filter plan.snap) 0 ls ms (λ t l m a d. watched_by plan ps t l m a d) e h did) done
 
 -- ---- what all lanes hold
 
@@ -131,12 +163,20 @@ queues_alone segs ls ms e h a i d lt =
     let n : i < length ls = omega (arith, e, lt) in
     subst (λ z. AreAlone z.items) (sym (h i d n).packets) (a i d n)
 
+tap_kept : (o : Option (List Packet)) (filter : Option (List Instr)) (snap : ℕ) (l m : TapLane) → DidTapOf o filter snap l m → Keeps (of_tap l) (of_tap m)
+tap_kept None filter snap l m h = h.kept
+tap_kept (Some texts) filter snap l m same = subst (λ (z : TapLane). Keeps (of_tap l) (of_tap z)) (sym same) (λ t i. (omega arith, omega arith))
+
+tap_blocks : (o : Option (List Packet)) (filter : Option (List Instr)) (snap : ℕ) (l m : TapLane) → DidTapOf o filter snap l m → KeepsBlocks (of_tap l) (of_tap m)
+tap_blocks None filter snap l m h = h.blocks
+tap_blocks (Some texts) filter snap l m same = subst (λ (z : TapLane). KeepsBlocks (of_tap l) (of_tap z)) (sym same) (λ bs i. omega arith)
+
 pub taps_kept : (filter : Option (List Instr)) (snap : ℕ) (ls ms : List TapLane) → length ms ≡ length ls → EachTapDid filter snap ls ms → Keeps (of_taps ls) (of_taps ms)
 taps_kept filter snap [] [] e h t i = (omega arith, omega arith)
 taps_kept filter snap [] (m ∷ ms) e h t i = absurd (omega (arith, e))
 taps_kept filter snap (l ∷ ls) [] e h t i = absurd (omega (arith, e))
 taps_kept filter snap (l ∷ ls) (m ∷ ms) e h t i =
-    let a = (h zero l (omega arith)).kept t i in
+    let a = tap_kept l.texts filter snap l m (h zero l (omega arith)) t i in
     let b = taps_kept filter snap ls ms (omega (arith, e)) (λ j d lt. h (suc j) d (omega (arith, lt))) t i in
     (omega (arith, a.0, b.0), omega (arith, a.1, b.1))
 
@@ -145,7 +185,7 @@ taps_blocks filter snap [] [] e h bs i = omega arith
 taps_blocks filter snap [] (m ∷ ms) e h bs i = absurd (omega (arith, e))
 taps_blocks filter snap (l ∷ ls) [] e h bs i = absurd (omega (arith, e))
 taps_blocks filter snap (l ∷ ls) (m ∷ ms) e h bs i =
-    let a = (h zero l (omega arith)).blocks bs i in
+    let a = tap_blocks l.texts filter snap l m (h zero l (omega arith)) bs i in
     let b = taps_blocks filter snap ls ms (omega (arith, e)) (λ j d lt. h (suc j) d (omega (arith, lt))) bs i in
     omega (arith, a, b)
 

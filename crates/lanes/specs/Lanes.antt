@@ -1,5 +1,5 @@
 -- The lanes of a round, and what they hold.
-use Rattle.std.specs.Prelude.{ℕ, ◌≡◌, ◌+◌, ◌<◌, ◌≤◌, ◌^◌, All, IfSome, Option, List, [], ◌∷◌, length, map}
+use Rattle.std.specs.Prelude.{ℕ, ◌≡◌, ◌+◌, ◌<◌, ◌≤◌, ◌^◌, All, IfSome, Option, None, Some, List, [], ◌∷◌, length, map}
 use Rattle.std.specs.Prelude.{slice_index_or}
 use Rattle.frags.specs.Account.{Account, Keeps, KeepsBlocks, both, of_outcomes}
 use Rattle.frags.specs.OutcomesState.{IsBare}
@@ -95,7 +95,7 @@ abbrev pub IsTapReady : TapLane → Type 0
 IsTapReady l = blocks_of l.clones.items ≤ l.outcomes.spare
 
 -- a tap's windows of what is shown are read, or memory for them is refused, and its clones were given back
-pub record DidTap (filter : Option (List Instr)) (snap : ℕ) (old new : TapLane) : Type 0 where
+pub record ReadsTap (filter : Option (List Instr)) (snap : ℕ) (old new : TapLane) : Type 0 where
   pub tap : new.tap ≡ old.tap
   pub kept : Keeps (of_tap old) (of_tap new)
   pub blocks : KeepsBlocks (of_tap old) (of_tap new)
@@ -103,6 +103,14 @@ pub record DidTap (filter : Option (List Instr)) (snap : ℕ) (old new : TapLane
   pub read : IfSome new.texts (λ texts. texts ≡ texts_of snap old.tap (map (shown_packet filter) old.clones.items))
   pub windows : IfSome new.texts (λ texts. map (record_of_text old.tap) texts
       ≡ windows_of snap old.tap (map (shown_packet filter) old.clones.items))
+
+-- so of a tap that hasn't read before; one that has stays as it is
+abbrev pub DidTapOf : Option (List Packet) → Option (List Instr) → ℕ → TapLane → TapLane → Type 0
+DidTapOf None filter snap old new = ReadsTap filter snap old new
+DidTapOf (Some texts) filter snap old new = new ≡ old
+
+abbrev pub DidTap : Option (List Instr) → ℕ → TapLane → TapLane → Type 0
+DidTap filter snap old new = DidTapOf old.texts filter snap old new
 
 abbrev pub EachTapDid : Option (List Instr) → ℕ → List TapLane → List TapLane → Type 0
 EachTapDid filter snap xs ys = (i : ℕ) (d : TapLane) → i < length xs

@@ -117,10 +117,10 @@ pub record Fills (shared : Bool) (plan : LanePlan) (old new : List Held) (l : La
   pub named : (h : ℕ → ℕ) → weighed_slots h new + weighed_queues h l.queues.items ≡ weighed_slots h old
   pub unshared : AreUnshared shared plan old new l
 
--- tap t has a clone of each of these packets, or has read them where they lie
+-- tap t has read these packets where they lie, or, where their heads are shared, has a clone of each
 abbrev pub MayWatch : Bool → LanePlan → List Packet → ℕ → TapLane → Type 0
-MayWatch true plan ps = HasClones ps
-MayWatch false plan ps = IsWatched plan.snap (shown_by plan ps)
+MayWatch true plan ps t l = HasClones ps t l ⊎ (IsWatched plan.snap (shown_by plan ps) t l × (l.clones.items ≡ []))
+MayWatch false plan ps t l = IsWatched plan.snap (shown_by plan ps) t l
 
 -- they have what they are to do
 pub record AreFilled (shared : Bool) (plan : LanePlan) (old : List Held) (l : Lanes) : Type 0 where
@@ -133,17 +133,6 @@ pub record AreFilled (shared : Bool) (plan : LanePlan) (old : List Held) (l : La
 pub record Did (plan : LanePlan) (old new : Lanes) : Type 0 where
   pub queues : EachQueueDid plan.segs old.queues.items new.queues.items
   pub taps : EachTapDid plan.filter plan.snap old.taps.items new.taps.items
-  pub sizes : (length new.queues.items ≡ length old.queues.items) × (length new.taps.items ≡ length old.taps.items)
-
--- taps that have read stay as they are
-abbrev pub DidTaps : Bool → LanePlan → List TapLane → List TapLane → Type 0
-DidTaps true plan xs ys = EachTapDid plan.filter plan.snap xs ys
-DidTaps false plan xs ys = ys ≡ xs
-
--- all lanes that had something to do
-pub record DidAll (shared : Bool) (plan : LanePlan) (old new : Lanes) : Type 0 where
-  pub queues : EachQueueDid plan.segs old.queues.items new.queues.items
-  pub taps : DidTaps shared plan old.taps.items new.taps.items
   pub sizes : (length new.queues.items ≡ length old.queues.items) × (length new.taps.items ≡ length old.taps.items)
 
 -- what a round comes to

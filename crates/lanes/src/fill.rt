@@ -9,13 +9,13 @@ ghost use Rattle.lanes.specs.Filling.{CanServe, Serves};
 ghost use Rattle.lanes.specs.Lanes.{of_tap, of_taps, AreIdle, IsIdleQueue, IsIdleTap, IsTapReady};
 ghost use Rattle.lanes.specs.Sharing.{EachFrom, IsSharing};
 ghost use Rattle.lanes.specs.Taps.{HasClones};
-ghost use Rattle.lanes.specs.Work.{IsPlan};
+ghost use Rattle.lanes.specs.Work.{IsPlan, MayWatch};
 
 use crate::clones::clone_all;
 use crate::free::{free_queues, free_taps};
 use crate::lane::{Lanes, QueueLane, TapLane};
 use crate::plan::LanePlan;
-use crate::read::read_taps;
+use crate::read::{read_tap, read_taps};
 use crate::works::Works;
 use core::mem::replace;
 use gro::Packets;
@@ -148,42 +148,90 @@ fn fill_tap(
     clone_all(packets, tap + 1, &mut lane.clones)
 }
 
-// Each tap gets a clone of each packet; all packets have `count` blocks and parts. Where memory is refused the lanes
-// have the clones that were made.
-fn fill_taps(lanes: &mut [TapLane], count: usize, packets: &mut Packets) -> Result<(), AllocError>
+// A tap that others read for gets clones, and another one reads the packets where they lie.
+fn serve_tap<W: Works>(
+    works: &W,
+    plan: &LanePlan,
+    beside: bool,
+    lane: &mut TapLane,
+    tap: u32,
+    count: usize,
+    packets: &mut Packets,
+) -> Result<(), AllocError>
+    requires few { tap < 8 }
+    requires idle { IsIdleTap lane.old }
+    requires held { AreHeld packets.old.items }
+    requires shared { AreShared packets.old.items }
+    requires weigh { WeighAtLeast (weight_after (tap + 1)) packets.old.items }
+    requires count { count ≡ counts_of packets.old.items }
+    ensures after { AreAfter (tap + 2) packets.old.items packets.new.items }
+    ensures kept { Keeps (of_packets packets.old.items) (both (of_packets packets.new.items) (of_tap lane.new)) }
+    ensures blocks { KeepsBlocks (of_packets packets.old.items)
+        (both (of_packets packets.new.items) (of_tap lane.new)) }
+    ensures ready { IsTapReady lane.new }
+    ensures served { OnOk result (MayWatch true plan.now (map packet_of packets.old.items) tap lane.new) }
+{
+    if beside {
+        return fill_tap(lane, tap, count, packets);
+    }
+    read_tap(works, plan, tap, lane, packets)
+}
+
+// Each tap is served; all packets have `count` blocks and parts. Where memory is refused the lanes have the clones that
+// were made.
+fn fill_taps<W: Works>(
+    works: &W,
+    plan: &LanePlan,
+    lanes: &mut [TapLane],
+    count: usize,
+    packets: &mut Packets,
+) -> Result<(), AllocError>
     requires may { CanServe lanes.old packets.old.items }
     requires shared { AreShared packets.old.items }
     requires count { count ≡ counts_of packets.old.items }
     ensures after { AreAfter 9 packets.old.items packets.new.items }
-    ensures serves { (plan : LanePlan) → Serves true plan packets.old.items packets.new.items lanes.old lanes.new
-        result }
+    ensures serves { Serves true plan.now packets.old.items packets.new.items lanes.old lanes.new result }
 {
+    let beside = works.taps_beside(plan, packets);
     for i in 0..lanes.len() {
-        fill_tap(&mut lanes[i], i as u32, count, packets)?;
+        let tap = i as u32;
+        serve_tap(
+            works,
+            plan,
+            tap < beside,
+            &mut lanes[i],
+            tap,
+            count,
+            packets,
+        )?;
     }
     Ok(())
 }
 
-// Each tap gets a clone of each packet. Where there is no tap nothing is counted and nothing is asked of the packets:
+// Taps are served where heads are shared. Where there is no tap nothing is counted and nothing is asked of the packets:
 // they stay as they are.
-fn clone_for_taps(lanes: &mut [TapLane], packets: &mut Packets) -> Result<(), AllocError>
+fn clone_for_taps<W: Works>(
+    works: &W,
+    plan: &LanePlan,
+    lanes: &mut [TapLane],
+    packets: &mut Packets,
+) -> Result<(), AllocError>
     requires may { CanServe lanes.old packets.old.items }
     requires shared { 1 ≤ length lanes.old → AreShared packets.old.items }
     requires counts { counts_of packets.old.items ≤ 65536 }
     ensures same { AreSame packets.old.items packets.new.items }
     ensures stay { length lanes.old ≡ 0 → packets.new.items ≡ packets.old.items }
-    ensures serves { (plan : LanePlan) → Serves true plan packets.old.items packets.new.items lanes.old lanes.new
-        result }
+    ensures serves { Serves true plan.now packets.old.items packets.new.items lanes.old lanes.new result }
 {
     if lanes.is_empty() {
         return Ok(());
     }
     let count = weigh(packets);
-    fill_taps(lanes, count, packets)
+    fill_taps(works, plan, lanes, count, packets)
 }
 
-/// Each tap gets a clone of each packet where their heads are shared. Else it reads each where it lies, and packets
-/// stay as they are.
+/// A tap gets a clone of each packet where their heads are shared and others read for it. Else it reads each where it
+/// lies, and where no head is shared packets stay as they are.
 pub(crate) fn serve_taps<W: Works>(
     works: &W,
     plan: &LanePlan,
@@ -200,7 +248,7 @@ pub(crate) fn serve_taps<W: Works>(
     ensures serves { Serves shared plan.now packets.old.items packets.new.items lanes.old lanes.new result }
 {
     if shared {
-        return clone_for_taps(lanes, packets);
+        return clone_for_taps(works, plan, lanes, packets);
     }
     read_taps(works, plan, lanes, packets)
 }

@@ -6,7 +6,7 @@ use gro::Packets;
 const SHORT_FRAME: usize = 1024;
 
 /// Fewer packets say little of those behind them.
-const SOME_PACKETS: usize = 16;
+pub const SOME_PACKETS: usize = 16;
 
 /// How many packets there are, and how many bytes their frames have together.
 #[derive(Clone, Copy)]

@@ -27,10 +27,11 @@
 //! its clones may leave before it gets them, so giving back wants no memory.
 //!
 //! Only what is cloned is shared. Where taps get clones, whoever has the packets shares their heads first
-//! (`gro::Packets::share_heads`), and each clone takes of a block's weight. Where the thread that calls reads for taps
-//! (`reads_here` of [`Works`]) they want no clone: each reads the packets before any goes to its queue, and no count
-//! word is stepped for it. Then, and without taps, nothing is asked of the heads, nothing is counted, and packets of
-//! which nobody shares a block come out of the work as such.
+//! (`gro::Packets::share_heads`), and each clone takes of a block's weight. A tap that the thread that calls reads for
+//! wants no clone: it reads the packets before any goes to its queue, and no count word is stepped for it. So read all
+//! taps where others would be of no use (`reads_here` of [`Works`]), and else those for which there is no other thread
+//! (`taps_beside`). In the first case, and without taps, nothing is asked of the heads, nothing is counted, and packets
+//! of which nobody shares a block come out of the work as such.
 //!
 //! Blocks that a round has and that no packet holds, its spares, lie in no lane. Where others read the next round
 //! beside the work they are lent with a `block_pool::Giver`, and go to the pool that these take lists from as soon as a
@@ -122,8 +123,8 @@
 //! - **The list is turned before packets are spread**: they leave it by its end, where none of the others has to move,
 //!   and are to come to their lanes in order. Where memory is refused it is turned again.
 //! - **A tap that reads where packets lie reads before they part**: then they stand in their order in one list, over
-//!   however many queues. Its lane stays apart while the queues are worked, so who works lanes knows taps with clones
-//!   alone.
+//!   however many queues. Its lane has its windows from then on, and who works lanes leaves it as it is (`DidTap` in
+//!   `specs/Lanes`), so that some taps may have read and others have clones.
 //! - **Only memory stops lanes from being filled**: first there are as many as the plan has, then come each tap's
 //!   clones of all packets, or its windows, then the packets go to their queues, and at last each queue's engine takes
 //!   its memory. So clones are of packets in their order, and a packet that there is no memory for stands in front of
@@ -155,7 +156,7 @@ mod soles;
 mod working;
 mod works;
 
-pub use frame_lengths::{FrameLengths, have_short_frames};
+pub use frame_lengths::{FrameLengths, SOME_PACKETS, have_short_frames};
 pub use free::{free_queue, free_tap};
 pub use giving::give_back;
 pub use keep::keep_packets;

@@ -51,8 +51,8 @@ fn read_packets(
     Ok(texts)
 }
 
-// A tap reads its windows of packets, and passes the gate before it and after it.
-fn read_tap<W: Works>(
+/// A tap reads its windows of packets, and passes the gate before it and after it.
+pub(crate) fn read_tap<W: Works>(
     works: &W,
     plan: &LanePlan,
     tap: u32,

@@ -12,12 +12,12 @@ ghost use Rattle.block_pool.specs.Giving.{LeavesNone, MayGive};
 ghost use Rattle.lanes.specs.Clones.{weight_after};
 ghost use Rattle.lanes.specs.Filling.{AreReady, CanFill};
 ghost use Rattle.lanes.specs.Lanes.{of_lanes, counts_of_queues, weighed_queues};
-ghost use Rattle.lanes.specs.Lanes.{AreIdle, EachQueueDid, IsFilled, IsIdleTap, IsMerged, IsTapReady};
+ghost use Rattle.lanes.specs.Lanes.{AreIdle, IsIdleTap, IsMerged, IsTapReady};
 ghost use Rattle.lanes.specs.Packets.{RiseFrom};
 ghost use Rattle.lanes.specs.Sharing.{EachFrom};
 ghost use Rattle.lanes.specs.Soles.{AreOfPackets, HaveNoSoles};
 ghost use Rattle.lanes.specs.Work.{spread_of, options_by, shown_by, IsPlan, IsToWork, AreFilled, AreMerged};
-ghost use Rattle.lanes.specs.Work.{AreWatched, DidAll, Fills, IsDone, IsRefused, IsUncloned, MayWatch, lane_records};
+ghost use Rattle.lanes.specs.Work.{AreWatched, Did, Fills, IsDone, IsRefused, IsUncloned, MayWatch, lane_records};
 
 use crate::fill::{give_all_up, open_lanes, serve_taps};
 use crate::lane::{Lanes, TapLane};
@@ -26,7 +26,6 @@ use crate::share::share_out;
 use crate::soles::check_soles;
 use crate::works::Works;
 use block_pool::Giver;
-use core::mem::replace;
 use gro::Packets;
 use std::alloc::{AllocError, Global};
 
@@ -94,51 +93,11 @@ fn begin<W: Works>(
     }
 }
 
-// The queues' lanes. Those of taps, which have read, stay apart meanwhile.
-fn run_queues<W: Works>(
-    works: &mut W,
-    plan: &LanePlan,
-    lanes: &mut Lanes,
-    giver: &mut Option<Giver>,
-)
-    requires filled { All IsFilled lanes.old.queues.items }
-    ensures queues { EachQueueDid plan.now.segs lanes.old.queues.items lanes.new.queues.items }
-    ensures size { length lanes.new.queues.items ≡ length lanes.old.queues.items }
-    ensures taps { lanes.new.taps ≡ lanes.old.taps }
-    ensures gave { MayGive giver.old giver.new }
-    ensures none_left { W.gives ≡ true → LeavesNone giver.old giver.new }
-{
-    let alloc = *lanes.taps.allocator();
-    let taps = replace(&mut lanes.taps, Vec::new(alloc));
-    works.run_lanes(plan, lanes, giver);
-    replace(&mut lanes.taps, taps).destroy_empty();
-}
-
-// All lanes that have something to do.
-fn run_all<W: Works>(
-    works: &mut W,
-    plan: &LanePlan,
-    shared: bool,
-    lanes: &mut Lanes,
-    giver: &mut Option<Giver>,
-)
-    requires ready { AreReady lanes.old }
-    ensures did { DidAll shared plan.now lanes.old lanes.new }
-    ensures gave { MayGive giver.old giver.new }
-    ensures none_left { W.gives ≡ true → LeavesNone giver.old giver.new }
-{
-    if shared {
-        works.run_lanes(plan, lanes, giver);
-    } else {
-        run_queues(works, plan, lanes, giver);
-    }
-}
-
 // What the lanes say after their work: all of it is done, or a tap was refused memory. No tap has a Sole.
 fn finish(packets: &mut Packets, lanes: &mut Lanes) -> Result<(), AllocError>
     requires theirs { AreOfPackets packets.old.items lanes.old }
     ensures ended { (shared : Bool) (plan : LanePlan) (old : List Held) (before : Lanes)
-        → AreFilled shared plan old before → DidAll shared plan before lanes.old
+        → AreFilled shared plan old before → Did plan before lanes.old
         → MatchResult result (λ _. IsDone shared plan old lanes.new) (λ _. IsRefused shared plan old [] lanes.new) }
     ensures no_soles { HaveNoSoles lanes.new.taps.items }
     ensures packets { packets.new ≡ packets.old }
@@ -152,12 +111,12 @@ fn finish(packets: &mut Packets, lanes: &mut Lanes) -> Result<(), AllocError>
 }
 
 /// The work of a round in lanes that are idle, by whoever works them. Each packet goes to the queue of its flow; where
-/// there is one queue their list is the lane's. Before any worker starts each tap is given a clone of every packet,
-/// where their heads are shared; else it reads each where it lies, and no block is shared for it. Each worker and each
-/// tap passes the gate at point 0 before its work and at point 1 after it. One clone of each packet may have been kept
-/// before, by [`keep_packets`](crate::keep_packets). What lies in the giver's list is no block of the packets: it may
-/// go back to its pool as soon as a lane is worked, and what doesn't stays there. By who gives (`Works::gives`) all of
-/// it goes back, unless a put finds no place.
+/// there is one queue their list is the lane's. Before any worker starts each tap that others read for is given a
+/// clone of every packet, where their heads are shared; else it reads each where it lies, and no block is shared for
+/// it. Each worker and each tap passes the gate at point 0 before its work and at point 1 after it. One clone of each
+/// packet may have been kept before, by [`keep_packets`](crate::keep_packets). What lies in the giver's list is no
+/// block of the packets: it may go back to its pool as soon as a lane is worked, and what doesn't stays there. By who
+/// gives (`Works::gives`) all of it goes back, unless a put finds no place.
 ///
 /// For want of memory what isn't in `packets` any more is in the lanes. Where they are as many as the plan has, their
 /// memory serves.
@@ -203,6 +162,6 @@ pub fn work_packets<W: Works>(
     ensures none_left { W.gives ≡ true → OnOk result (LeavesNone giver.old giver.new) }
 {
     begin(works, alloc, plan, shared, packets, lanes)?;
-    run_all(works, plan, shared, lanes, giver);
+    works.run_lanes(plan, lanes, giver);
     finish(packets, lanes)
 }

@@ -2,7 +2,7 @@
 ghost use Rattle.std.specs.Prelude.{◌≤◌, length, All, option_map};
 ghost use Rattle.block_pool.specs.Giving.{LeavesNone, MayGive};
 ghost use Rattle.lanes.specs.Filling.{AreReady};
-ghost use Rattle.lanes.specs.Lanes.{DidQueue, DidTap, EachQueueDid, EachTapDid, IsFilled, IsTapReady};
+ghost use Rattle.lanes.specs.Lanes.{DidQueue, DidTap, EachQueueDid, EachTapDid, IsFilled, IsTapReady, ReadsTap};
 ghost use Rattle.lanes.specs.Work.{Did};
 
 use crate::giving::give_back;
@@ -28,10 +28,10 @@ pub fn work<G: Gate>(gate: &G, segs: u32, lane: &mut QueueLane)
     gate.pass(who, 1);
 }
 
-/// A tap's task. It passes the gate at the same points.
-pub fn watch<G: Gate>(gate: &G, snap: u32, filter: Option<&Program>, lane: &mut TapLane)
+// A tap reads its clones.
+fn read<G: Gate>(gate: &G, snap: u32, filter: Option<&Program>, lane: &mut TapLane)
     requires ready { IsTapReady lane.old }
-    ensures did { DidTap (option_map (λ p. p.now) filter.entry) snap lane.old lane.new }
+    ensures did { ReadsTap (option_map (λ p. p.now) filter.entry) snap lane.old lane.new }
 {
     let none = TapTexts::new(*lane.clones.allocator());
     let memory = replace(&mut lane.memory, none);
@@ -45,6 +45,16 @@ pub fn watch<G: Gate>(gate: &G, snap: u32, filter: Option<&Program>, lane: &mut 
         memory,
     );
     lane.texts = texts.ok();
+}
+
+/// A tap's task, unless it has read. It passes the gate at the same points.
+pub fn watch<G: Gate>(gate: &G, snap: u32, filter: Option<&Program>, lane: &mut TapLane)
+    requires ready { IsTapReady lane.old }
+    ensures did { DidTap (option_map (λ p. p.now) filter.entry) snap lane.old lane.new }
+{
+    if lane.texts.is_none() {
+        read(gate, snap, filter, lane);
+    }
 }
 
 // The queues' workers, one after another.

@@ -9,6 +9,7 @@ ghost use Rattle.lanes.specs.Work.{IsPlan};
 use super::frames::IN_TURN;
 use super::packets::{all_home, in_turn, kept_home, unshared};
 use crate::plans::{chosen, plain};
+use block_pool::Giver;
 use gro::Packets;
 use lanes::{Alone, LanePlan, Lanes, QueueLane, TapLane, Works, keep_packets, work_packets};
 use off_io::{Gate, NoGate, Who};
@@ -293,6 +294,56 @@ fn read_where_they_lie(rt: HostRuntime) {
     let passes = gate.passes.load(Ordering::SeqCst);
     let seen = (are_two_and_two(&lanes), are_unshared(&lanes), passes);
     assert_eq!(rt; (seen, all_home(&rt, lanes)), ((true, true, 8), 8));
+}
+
+// Works as one thread does, though another one is said to be free for one tap.
+#[derive(Drop)]
+struct OneBeside<'a, G> {
+    own: Alone<'a, G>,
+}
+
+impl<G: Gate> Works for OneBeside<'_, G> {
+    ghost use Rattle.std.specs.Prelude.{false};
+
+    ghost gives = { false };
+
+    fn reads_here(&self, packets: &Packets) -> bool {
+        self.own.reads_here(packets)
+    }
+
+    fn taps_beside(&self, _plan: &LanePlan, _packets: &Packets) -> u32 {
+        1
+    }
+
+    fn pass(&self, tap: u32, point: u32) {
+        self.own.pass(tap, point);
+    }
+
+    fn run_lanes(&mut self, plan: &LanePlan, lanes: &mut Lanes, giver: &mut Option<Giver>) {
+        self.own.run_lanes(plan, lanes, giver);
+    }
+}
+
+/// Of two taps one has clones and one reads packets where they lie.
+#[test]
+fn one_tap_beside(rt: HostRuntime) {
+    let alloc = rt.alloc();
+    let gate = Count {
+        passes: AtomicU32::new(0),
+    };
+    let lanes = worked(
+        &rt,
+        alloc,
+        in_turn(&rt, alloc),
+        &plain(2, 2, 64),
+        true,
+        &mut OneBeside {
+            own: Alone { gate: &gate },
+        },
+    );
+    let passes = gate.passes.load(Ordering::SeqCst);
+    let seen = (are_two_and_two(&lanes), passes);
+    assert_eq!(rt; (seen, all_home(&rt, lanes)), ((true, 8), 8));
 }
 
 /// All lanes in one thread, each passing the gate twice, over packets of which a clone is kept: each is cloned nine

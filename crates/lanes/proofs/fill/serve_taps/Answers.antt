@@ -6,7 +6,7 @@ use Rattle.lanes.proofs.fill.serve_taps.Goals as goal
 pub returns-then-shared-clause-serves : goal.returns-then-shared-clause-serves
 returns-then-shared-clause-serves g c =
     let e = c.clone_for_taps in
-    subst (λ (z : Bool). Serves z c.args.plan.now c.args.packets.now.items e.new.packets.items c.args.lanes.now e.new.lanes e.result) (sym c.if-shared.true) (e.ensures.serves c.args.plan.now)
+    subst (λ (z : Bool). Serves z c.args.plan.now c.args.packets.now.items e.new.packets.items c.args.lanes.now e.new.lanes e.result) (sym c.if-shared.true) e.ensures.serves
 
 pub returns-clause-serves : goal.returns-clause-serves
 returns-clause-serves g c =
