@@ -1,10 +1,9 @@
 //! Checks a capture: it is merged round by round, as `merge` does, and what comes back of each round is counted. The
 //! counts are written at the end.
-ghost use Rattle.std.specs.Prelude.{◌≡◌, ℕ, ◌≤◌, ◌<◌, ◌^◌, ◌-◌, ◌+◌, ◌++◌, [], Some, None, length, min, true};
+ghost use Rattle.std.specs.Prelude.{◌≡◌, ◌≤◌, ◌<◌, ◌^◌, ◌-◌, ◌+◌, ◌++◌, [], Some, None, length, true};
 ghost use Rattle.std.specs.Prelude.{OnOk, OnErr};
 ghost use Rattle.std.specs.List.{AllByRecursion};
 ghost use Rattle.std.specs.Io.KnownBytes.{Appends};
-ghost use Rattle.block_pool.specs.PoolState.{weighed};
 ghost use Rattle.off_io.specs.Content.{AppendsPrefix};
 ghost use Rattle.off_io.specs.Faults.{HasCause, Rose};
 ghost use Rattle.off_io.specs.Told.{Told};
@@ -17,12 +16,12 @@ ghost use Rattle.offload_model.specs.Passing.{PrefixUnless};
 ghost use Rattle.offload_words.specs.declared.words.Command.TheVariants.{Check};
 ghost use Rattle.offload_words.specs.Check.{IsInRange as IsCheckInRange};
 ghost use Rattle.offload_words.specs.Merge.{IsInRange};
-ghost use Rattle.check_totals.specs.Counts.{totals_of, HasLanes, IsQueueWithin, IsWithin};
+ghost use Rattle.check_totals.specs.Counts.{totals_of, IsQueueWithin};
 ghost use Rattle.check_totals.specs.Lines.{check_lines};
-ghost use Rattle.check_totals.specs.Checking.{counting, checking_whole};
-ghost use Rattle.check_totals.specs.Tallies.{Tallies};
-ghost use Rattle.rounds.specs.Merging.{options_of as rounds_options, TakesTo};
-ghost use Rattle.checking.specs.Handling.{ending_of as check_ending};
+ghost use Rattle.check_totals.specs.Checking.{checking_whole};
+ghost use Rattle.rounds.specs.Handled.{source_at};
+ghost use Rattle.rounds.specs.Merging.{options_of as rounds_options};
+ghost use Rattle.checking.specs.Whole.{Checked as CheckedRounds};
 ghost use Rattle.command_answers.specs.Checking.{checking_made, ChecksTo, ReadAnswers};
 ghost use Rattle.check_command.specs.Checking.{first_line, status_if, Checked, LinesEnd, Tells};
 ghost use Rattle.command_answers.specs.Ending.{HasBlocks, IsCaused};
@@ -161,18 +160,8 @@ fn count_behind<R: Threads + Wait + Sync, S: Source + Send, G: Gate + Sync>(
     requires home { rounds.old.home ≡ rounds.old.blocks }
     requires keep { rounds.old.keep ≡ true }
     requires start { totals.old ≡ totals_of (rounds_options rounds.old) [] }
-    ensures given { Told (S.left source.old) (S.left source.new)
-        (Tallies (counting rounds.old.blocks (rounds_options rounds.old) (first_place file Ethernet 0)) totals.old
-        totals.new (check_ending result)) }
-    ensures lanes { HasLanes (rounds_options rounds.old) totals.new }
-    ensures within { IsWithin (2 ^ 50) (2 ^ 62) totals.new }
-    ensures home { rounds.new.home ≡ rounds.new.blocks }
-    ensures named { (h : ℕ → ℕ) → weighed h rounds.new.stock ≡ weighed h rounds.old.stock }
-    ensures same { rounds.new.blocks ≡ rounds.old.blocks }
-    ensures taken { Told (S.left source.old) (S.left source.new) (TakesTo rounds.old.blocks rounds.old.budget
-        (first_place file Ethernet 0) rounds.old.taken rounds.new.taken (check_ending result)) }
-    ensures later { S.faults source.old ≤ S.faults source.new }
-    ensures read { result ≡ CheckEnd.ReadFault → Rose (S.faults source.old) (S.faults source.new) }
+    ensures checked { CheckedRounds rounds.old rounds.new (first_place file Ethernet 0)
+        (source_at S.left S.faults source.old) (source_at S.left S.faults source.new) totals.old totals.new result }
 {
     let mut reader = CaptureReader::after_file(source, file, Link::Ethernet);
     check_beside(rt, alloc, rounds, &mut reader, totals, gate)

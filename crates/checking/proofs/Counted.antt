@@ -21,7 +21,7 @@ use Rattle.rounds.specs.RoundsState.{RoundsState}
 use Rattle.rounds.proofs.Merging.{fewer_by, is_short}
 use Rattle.rounds.proofs.Needs.{end_told, ending_at}
 use Rattle.rounds.specs.Reading.{GivesRound}
-use Rattle.rounds.specs.Handled.{Ends, Handled}
+use Rattle.rounds.specs.Handled.{Ends, Handled, drawn_at}
 use Rattle.rounds.specs.Reads.{Spot, ReadRound, Reads, is_full}
 use Rattle.rounds.proofs.Rows.{reads_lose}
 use Rattle.checking.specs.Whole.{Checked}
@@ -182,7 +182,7 @@ module _ (blocks : ℕ) (options : Options) where
 pub all_checked : (old new : RoundsState) (from to : Spot) (before after : Counts) (end : CheckEnd) → from.taken ≡ old.taken → to.taken ≡ new.taken → before ≡ totals_of (options_of old) []
     → Handled (λ a b read k e. CountsRound a b (round_totals (options_of old) (map packet_of read.round.packets)) k read.end e) ends.NoMemory
     (λ n t. (old.keep ≡ true) × HasLanes (options_of old) t × AreOf n t) 0 old new from to before after end
-    → Checked old new from to before after end
+    → Checked old new from.place (drawn_at from) (drawn_at to) before after end
 all_checked old new from to before after end first last start h =
     let options = options_of old in
     let counted = ran_counted old.blocks options from before 0 from to before after h.ran.got h.ran.more end
@@ -199,7 +199,6 @@ all_checked old new from to before after end first last start h =
           (subst (λ (t : ℕ). Told from.left to.left (TakesTo old.blocks old.budget from.place t to.taken (ending_of end))) first counted.taken);
       least = h.rests.least;
       pauses = h.rests.pauses;
-      gives = h.rests.gives;
       later = h.rests.later;
       read = counted.read;
     }

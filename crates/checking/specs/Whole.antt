@@ -3,30 +3,29 @@ use Rattle.std.specs.Prelude.{◌≡◌, ℕ, ◌≤◌, ◌^◌}
 use Rattle.block_pool.specs.PoolState.{weighed}
 use Rattle.off_io.specs.Faults.{Rose}
 use Rattle.off_io.specs.Told.{Told}
+use Rattle.pcap_io.specs.declared.place.Place.{Place}
 use Rattle.check_totals.specs.Counts.{Counts, HasLanes, IsWithin}
 use Rattle.check_totals.specs.Checking.{counting}
 use Rattle.check_totals.specs.Tallies.{Tallies}
-use Rattle.rounds.specs.Handled.{FewPauses, GaveSpares}
+use Rattle.rounds.specs.Handled.{Drawn, FewPauses}
 use Rattle.rounds.specs.Merging.{options_of, TakesTo}
 use Rattle.rounds.specs.RoundsState.{RoundsState}
-use Rattle.rounds.specs.Reads.{Spot}
 use Rattle.checking.specs.declared.capture.CheckEnd.{CheckEnd}
 use Rattle.checking.specs.declared.capture.CheckEnd.TheVariants as ends
 use Rattle.checking.specs.Handling.{ending_of}
 
--- checking began here and ended so, as `check_all` says
-pub record Checked (old new : RoundsState) (from to : Spot) (before after : Counts) (end : CheckEnd) : Type 0 where
-  pub given : Told from.left to.left
-      (Tallies (counting old.blocks (options_of old) from.place) before after (ending_of end))
+-- Checking began at this place and ended so: what the source had left and has left, and what was counted.
+pub record Checked (old new : RoundsState) (place : Place) (from to : Drawn) (before after : Counts) (end : CheckEnd)
+    : Type 0 where
+  -- of each ending, what was read and counted
+  pub given : Told from.left to.left (Tallies (counting old.blocks (options_of old) place) before after (ending_of end))
   pub lanes : HasLanes (options_of old) after
   pub within : IsWithin (2 ^ 50) (2 ^ 62) after
   pub home : new.home ≡ new.blocks
   pub named : (h : ℕ → ℕ) → weighed h new.stock ≡ weighed h old.stock
   pub same : (new.blocks ≡ old.blocks) × (options_of new ≡ options_of old) × (new.keep ≡ old.keep)
-  pub taken : Told from.left to.left
-      (TakesTo old.blocks old.budget from.place old.taken new.taken (ending_of end))
+  pub taken : Told from.left to.left (TakesTo old.blocks old.budget place old.taken new.taken (ending_of end))
   pub least : old.taken ≤ new.taken
   pub pauses : FewPauses old.empties old.pauses new.empties new.pauses
-  pub gives : GaveSpares old.spares new.spares
   pub later : from.faults ≤ to.faults
   pub read : end ≡ ends.ReadFault → Rose from.faults to.faults

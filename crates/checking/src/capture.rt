@@ -1,22 +1,19 @@
 //! Checks the records of a capture, round by round.
-ghost use Rattle.std.specs.Prelude.{◌≡◌, ℕ, ◌+◌, ◌-◌, ◌≤◌, ◌^◌, [], List, length, map, min, true, IfOk, OnOk};
-ghost use Rattle.block_pool.specs.PoolState.{weighed};
-ghost use Rattle.off_io.specs.Faults.{Rose};
-ghost use Rattle.off_io.specs.Told.{Told};
+ghost use Rattle.std.specs.Prelude.{◌≡◌, [], List, length, map, true, IfOk, OnOk};
 ghost use Rattle.pcap_io.specs.declared.heads.Link.TheVariants.{Ethernet};
 ghost use Rattle.pcap_io.specs.Capture.{Packet};
 ghost use Rattle.pcap_io.specs.Places.{IsReady};
 ghost use Rattle.pcap_io.specs.Readers.{place_of, source_of, SameLoan};
 ghost use Rattle.gro.specs.Slots.{packet_of};
 ghost use Rattle.checking.specs.Compared.{compared_work, MayCompareWork};
-ghost use Rattle.check_totals.specs.Counts.{added, round_totals, totals_of, HasLanes, IsWithin};
-ghost use Rattle.check_totals.specs.Checking.{counting};
-ghost use Rattle.check_totals.specs.Tallies.{Tallies};
+ghost use Rattle.check_totals.specs.Counts.{added, round_totals, totals_of};
 ghost use Rattle.rounds.specs.Benches.{options_at, Brings, GivesSpares, MayBring};
+ghost use Rattle.rounds.specs.Handled.{source_at};
 ghost use Rattle.rounds.specs.Lanes.{IsKeptWorkOf};
-ghost use Rattle.rounds.specs.Merging.{options_of, TakesTo};
+ghost use Rattle.rounds.specs.Merging.{options_of};
 ghost use Rattle.rounds.specs.Weights.{weights_worked};
-ghost use Rattle.checking.specs.Handling.{ending_of, CountsLast, IsCounted, MayCount};
+ghost use Rattle.checking.specs.Handling.{CountsLast, IsCounted, MayCount};
+ghost use Rattle.checking.specs.Whole.{Checked};
 
 use crate::round::check_bench;
 use block_pool::{Giver, Pool};
@@ -168,8 +165,8 @@ impl RoundHandler<Totals, CheckEnd> for Counting {
 /// packets and ended, and what it counts is added to the totals.
 ///
 /// The rounds keep a clone of each packet, and the totals begin with those of no packet, of as many queues and taps.
-/// `given` says of each ending what was read and counted. A read fault only where the source's count of faults rose.
-/// All blocks are home again, whatever the ending.
+/// Of `checked`, `given` says of each ending what was read and counted. A read fault only where the source's count of
+/// faults rose. All blocks are home again, whatever the ending.
 pub fn check_all<W: Works, S: Source>(
     works: &mut W,
     rounds: &mut Rounds,
@@ -182,24 +179,9 @@ pub fn check_all<W: Works, S: Source>(
     requires keep { rounds.old.keep ≡ true }
     requires start { totals.old ≡ totals_of (options_of rounds.old) [] }
     ensures same_source { SameLoan reader.old reader.new }
-    ensures given { Told (S.left (source_of reader.old)) (S.left (source_of reader.new))
-        (Tallies (counting rounds.old.blocks (options_of rounds.old) (place_of reader.old)) totals.old totals.new
-        (ending_of result)) }
-    ensures lanes { HasLanes (options_of rounds.old) totals.new }
-    ensures within { IsWithin (2 ^ 50) (2 ^ 62) totals.new }
-    ensures home { rounds.new.home ≡ rounds.new.blocks }
-    ensures named { (h : ℕ → ℕ) → weighed h rounds.new.stock ≡ weighed h rounds.old.stock }
-    ensures same { (rounds.new.blocks ≡ rounds.old.blocks) × (options_of rounds.new ≡ options_of rounds.old)
-        × (rounds.new.keep ≡ rounds.old.keep) }
-    ensures taken { Told (S.left (source_of reader.old)) (S.left (source_of reader.new))
-        (TakesTo rounds.old.blocks rounds.old.budget (place_of reader.old) rounds.old.taken rounds.new.taken
-        (ending_of result)) }
-    ensures least { rounds.old.taken ≤ rounds.new.taken }
-    ensures pauses { (rounds.old.pauses ≤ rounds.new.pauses)
-        × (min (rounds.old.empties + (rounds.new.pauses - rounds.old.pauses)) (2 ^ 64 - 1) ≤ rounds.new.empties) }
-    ensures later { S.faults (source_of reader.old) ≤ S.faults (source_of reader.new) }
-    ensures read { result ≡ CheckEnd.ReadFault → Rose (S.faults (source_of reader.old))
-        (S.faults (source_of reader.new)) }
+    ensures checked { Checked rounds.old rounds.new (place_of reader.old)
+        (source_at S.left S.faults (source_of reader.old)) (source_at S.left S.faults (source_of reader.new))
+        totals.old totals.new result }
 {
     handle_from(works, rounds, reader, &Counting, totals, 0)
 }

@@ -13,9 +13,10 @@
 //!   they may be compared (`MayCompareWork`). So a body that compares nothing doesn't meet it.
 //! - `totals` of [`check_round`]: where the lanes hold what the round comes to, the totals are the model's: that all
 //!   come back, byte for byte. Such lanes may be compared (`may_compare` of `proofs/Kept.antt`).
-//! - `given` of `check_all`: the totals are those of the packets within the blocks, and checking ends where the
-//!   capture's bytes stop it, by the model that merging ends by (`counting`); after a read fault they are those of the
-//!   bytes that are gone. `home`: all blocks are home again, whatever the ending.
+//! - `checked` of `check_all`, one record of all that checking a capture says (`Checked` of `specs/Whole.antt`). Its
+//!   `given`: the totals are those of the packets within the blocks, and checking ends where the capture's bytes stop
+//!   it, by the model that merging ends by (`counting`); after a read fault they are those of the bytes that are gone.
+//!   Its `home`: all blocks are home again, whatever the ending.
 //!
 //! ```
 //! let mut works = Alone { gate: &NoGate };

@@ -4,10 +4,10 @@
 //! [`check_beside`] says what `checking::check_all` does, word for word. It goes by the driver that merges
 //! (`pipeline::handle_beside`), over what `checking` does with a round (`Counting`).
 //!
-//! Proved, by the names of the clauses of [`check_beside`]: the totals are those of the packets within the blocks, and
-//! checking ends where the capture's bytes stop it (`given`); all blocks are home again, just those that were, whatever
-//! the ending (`home`, `named`); reading has no more pauses than takes that found nothing (`pauses`); and spares go
-//! back while their round is worked (`gives`).
+//! Proved, by the clauses of [`check_beside`]: what `checked` of `check_all` says, so the totals are those of the
+//! packets within the blocks, and checking ends where the capture's bytes stop it (its `given`); all blocks are home
+//! again, just those that were, whatever the ending (`home`, `named`); and reading has no more pauses than takes that
+//! found nothing (`pauses`). And spares go back while their round is worked (`gives`).
 //!
 //! ```
 //! let end = check_beside(

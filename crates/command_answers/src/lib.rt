@@ -32,8 +32,8 @@
 //!   reads is one more line of `Answers`. `answers_in_plain_words` unfolds it: what the capture reads as, which round
 //!   exceeds the blocks, what is written.
 //! - **`flows` asks nothing of the source**: a record that was read is held in fields of 32 bits and in bytes, so the
-//!   packets that are merged are such as a capture may hold (`captured` of `merge_all`), and their numbers rise
-//!   whatever the bytes. It is said where merging ended by the bytes or by the source (status 0, 3, 4, 5); after a
+//!   packets that are merged are such as a capture may hold (`captured` of `Merged` of `rounds`), and their numbers
+//!   rise whatever the bytes. It is said where merging ended by the bytes or by the source (status 0, 3, 4, 5); after a
 //!   fault of the sink or want of memory a prefix is written, of which it isn't said.
 #![tactic(auto)]
 

@@ -1,18 +1,17 @@
 //! A capture, merged in rounds over one pool of blocks.
-ghost use Rattle.std.specs.Prelude.{◌≡◌, ℕ, ◌≤◌, ◌^◌, ◌-◌, ◌+◌, Some, None, true, false, min};
-ghost use Rattle.block_pool.specs.PoolState.{weighed};
-ghost use Rattle.off_io.specs.Content.{SaysFlushed};
+ghost use Rattle.std.specs.Prelude.{◌≡◌, Some, None};
 ghost use Rattle.off_io.specs.Faults.{Rose};
 ghost use Rattle.off_io.specs.Told.{Told};
 ghost use Rattle.pcap_io.specs.declared.heads.Link.TheVariants.{Ethernet, Offload};
 ghost use Rattle.pcap_io.specs.Capture.{reads};
 ghost use Rattle.pcap_io.specs.Places.{first_place, found_at};
 ghost use Rattle.offload_model.specs.Need.{round_need};
-ghost use Rattle.offload_model.specs.Passing.{merging, Passes, PrefixUnless, flushes};
+ghost use Rattle.offload_model.specs.Passing.{merging, Passes, PrefixUnless};
 ghost use Rattle.offload_words.specs.declared.words.Command.TheVariants.{Merge};
 ghost use Rattle.offload_words.specs.Merge.{IsInRange};
-ghost use Rattle.rounds.specs.Merging.{ending_of as merge_ending, options_of as rounds_options, HoldsCaptured};
-ghost use Rattle.rounds.specs.Merging.{TakesTo};
+ghost use Rattle.rounds.specs.Handled.{source_at};
+ghost use Rattle.rounds.specs.Merged.{sink_at, Merged};
+ghost use Rattle.rounds.specs.Merging.{ending_of as merge_ending};
 ghost use Rattle.command_answers.specs.RunAnswers.{HasAnswered};
 ghost use Rattle.command_answers.specs.Ending.{ending_of, Ends, FlushesAt, HasBlocks, IsCaused, OfRead};
 ghost use Rattle.merge_command.specs.Statuses.{status_by};
@@ -65,25 +64,9 @@ fn merge_behind<R: Threads + Wait + Sync, S: Source + Send, K: Sink, G: Gate + S
     gate: &G,
 ) -> MergeEnd
     requires home { rounds.old.home ≡ rounds.old.blocks }
-    ensures given { Told (S.left source.old) (S.left source.new)
-        (Passes (merging rounds.old.blocks (rounds_options rounds.old) (first_place file Ethernet 0)) (K.held sink.old)
-        (K.held sink.new) (merge_ending result)) }
-    ensures prefix { PrefixUnless (Rose (S.faults source.old) (S.faults source.new))
-        (merging rounds.old.blocks (rounds_options rounds.old) (first_place file Ethernet 0)) (S.left source.old)
-        (S.left source.new) (K.held sink.old) (K.held sink.new) }
-    ensures captured { Told (S.left source.old) (S.left source.new)
-        (HoldsCaptured rounds.old.blocks rounds.old.budget (first_place file Ethernet 0) result) }
-    ensures flushed { flushes (merge_ending result) ≡ true
-        → SaysFlushed (K.held sink.new) (K.is_flushed sink.new) true }
-    ensures home { rounds.new.home ≡ rounds.new.blocks }
-    ensures named { (h : ℕ → ℕ) → weighed h rounds.new.stock ≡ weighed h rounds.old.stock }
-    ensures same { rounds.new.blocks ≡ rounds.old.blocks }
-    ensures taken { Told (S.left source.old) (S.left source.new) (TakesTo rounds.old.blocks rounds.old.budget
-        (first_place file Ethernet 0) rounds.old.taken rounds.new.taken (merge_ending result)) }
-    ensures later { S.faults source.old ≤ S.faults source.new }
-    ensures later_sink { K.faults sink.old ≤ K.faults sink.new }
-    ensures read { result ≡ MergeEnd.ReadFault → Rose (S.faults source.old) (S.faults source.new) }
-    ensures write { result ≡ MergeEnd.WriteFault → Rose (K.faults sink.old) (K.faults sink.new) }
+    ensures merged { Merged rounds.old rounds.new (first_place file Ethernet 0) (source_at S.left S.faults source.old)
+        (source_at S.left S.faults source.new) (sink_at K.held K.is_flushed K.faults sink.old)
+        (sink_at K.held K.is_flushed K.faults sink.new) result }
 {
     let mut reader = CaptureReader::after_file(source, file, Link::Ethernet);
     merge_beside(rt, alloc, rounds, &mut reader, &file, sink, gate)

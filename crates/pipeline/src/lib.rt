@@ -51,10 +51,10 @@
 //! also those of rounds that were read and that nobody worked. What the side that works has left as it ends is no more
 //! than its last round had, unless a put found no place (`worked` of `run_sides`). The spares of all rounds but the
 //! last one are counted, and as many blocks went back while these were worked, unless a put found no place, which is
-//! counted too (`gives`, by `Rounds::spares`). [`merge_beside`] has the clauses of `Rounds::merge_all`, word for word.
-//! A round is paused only where a take found no list: of a run there are no more pauses than such takes (`pauses`). One
-//! that is paused is given up only where the other side has stopped (`given_up` of `read_beside` in `rounds`): so no
-//! round ends for want of blocks while the other side goes on.
+//! counted too (`gives`, by `Rounds::spares`). [`merge_beside`] has the clause of `Rounds::merge_all`, word for word. A
+//! round is paused only where a take found no list: of a run there are no more pauses than such takes (its `pauses`).
+//! One that is paused is given up only where the other side has stopped (`given_up` of `read_beside` in `rounds`): so
+//! no round ends for want of blocks while the other side goes on.
 //!
 //! Not proved: that waiting ends. The side that works waits only for a round, and has given all blocks of those before,
 //! or gives them again each time that it wakes. The side that reads waits for a place in the ring, and each round that

@@ -1,15 +1,10 @@
 //! Merges a capture.
-ghost use Rattle.std.specs.Prelude.{◌≡◌, ℕ, ◌+◌, ◌-◌, ◌≤◌, ◌^◌, true, min};
-ghost use Rattle.block_pool.specs.PoolState.{weighed};
-ghost use Rattle.off_io.specs.Content.{SaysFlushed};
-ghost use Rattle.off_io.specs.Faults.{Rose};
-ghost use Rattle.off_io.specs.Told.{Told};
-ghost use Rattle.offload_model.specs.Passing.{merging, Passes, PrefixUnless, flushes};
+ghost use Rattle.std.specs.Prelude.{◌≡◌};
 ghost use Rattle.pcap_io.specs.declared.heads.Link.TheVariants.{Ethernet};
 ghost use Rattle.pcap_io.specs.Places.{IsReady};
 ghost use Rattle.pcap_io.specs.Readers.{place_of, source_of, SameLoan};
-ghost use Rattle.rounds.specs.Handled.{GaveSpares};
-ghost use Rattle.rounds.specs.Merging.{ending_of, options_of, HoldsCaptured, TakesTo};
+ghost use Rattle.rounds.specs.Handled.{source_at, GaveSpares};
+ghost use Rattle.rounds.specs.Merged.{sink_at, Merged};
 
 use crate::crewed::handle_beside;
 use off_io::{Gate, Sink, Source};
@@ -19,7 +14,7 @@ use std::alloc::Global;
 use std::sync::Wait;
 use std::thread::Threads;
 
-/// Merges as `merge_all` of the rounds, whose clauses these are, but that the next rounds are read while one is worked,
+/// Merges as `merge_all` of the rounds, whose clause this is, but that the next rounds are read while one is worked,
 /// from the first one on, and that all threads are started once, for the whole run. On one processor, and where there
 /// is no memory or no thread for a second side, reading is done in the thread that calls; where there is none for those
 /// who run lanes, their work too. Where there is one queue and no tap, no thread is made of a capture of one round.
@@ -37,31 +32,10 @@ pub fn merge_beside<R: Threads + Wait + Sync, S: Source + Send, K: Sink, G: Gate
     requires file { (place_of reader.old).file ≡ file.now }
     requires home { rounds.old.home ≡ rounds.old.blocks }
     ensures same_source { SameLoan reader.old reader.new }
-    ensures given { Told (S.left (source_of reader.old)) (S.left (source_of reader.new))
-        (Passes (merging rounds.old.blocks (options_of rounds.old) (place_of reader.old)) (K.held sink.old)
-        (K.held sink.new) (ending_of result)) }
-    ensures prefix { PrefixUnless (Rose (S.faults (source_of reader.old)) (S.faults (source_of reader.new)))
-        (merging rounds.old.blocks (options_of rounds.old) (place_of reader.old)) (S.left (source_of reader.old))
-        (S.left (source_of reader.new)) (K.held sink.old) (K.held sink.new) }
-    ensures flushed { flushes (ending_of result) ≡ true → SaysFlushed (K.held sink.new) (K.is_flushed sink.new) true }
-    ensures home { rounds.new.home ≡ rounds.new.blocks }
-    ensures named { (h : ℕ → ℕ) → weighed h rounds.new.stock ≡ weighed h rounds.old.stock }
-    ensures same { (rounds.new.blocks ≡ rounds.old.blocks) × (options_of rounds.new ≡ options_of rounds.old)
-        × (rounds.new.keep ≡ rounds.old.keep) }
-    ensures taken { Told (S.left (source_of reader.old)) (S.left (source_of reader.new))
-        (TakesTo rounds.old.blocks rounds.old.budget (place_of reader.old) rounds.old.taken rounds.new.taken
-        (ending_of result)) }
-    ensures least { rounds.old.taken ≤ rounds.new.taken }
-    ensures pauses { (rounds.old.pauses ≤ rounds.new.pauses)
-        × (min (rounds.old.empties + (rounds.new.pauses - rounds.old.pauses)) (2 ^ 64 - 1) ≤ rounds.new.empties) }
+    ensures merged { Merged rounds.old rounds.new (place_of reader.old)
+        (source_at S.left S.faults (source_of reader.old)) (source_at S.left S.faults (source_of reader.new))
+        (sink_at K.held K.is_flushed K.faults sink.old) (sink_at K.held K.is_flushed K.faults sink.new) result }
     ensures gives { GaveSpares rounds.old.spares rounds.new.spares }
-    ensures captured { Told (S.left (source_of reader.old)) (S.left (source_of reader.new))
-        (HoldsCaptured rounds.old.blocks rounds.old.budget (place_of reader.old) result) }
-    ensures later { S.faults (source_of reader.old) ≤ S.faults (source_of reader.new) }
-    ensures later_sink { K.faults sink.old ≤ K.faults sink.new }
-    ensures read { result ≡ MergeEnd.ReadFault → Rose (S.faults (source_of reader.old))
-        (S.faults (source_of reader.new)) }
-    ensures write { result ≡ MergeEnd.WriteFault → Rose (K.faults sink.old) (K.faults sink.new) }
 {
     handle_beside(
         rt,

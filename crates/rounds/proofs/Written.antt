@@ -25,9 +25,9 @@ use Rattle.rounds.specs.declared.merge.MergeEnd.{MergeEnd}
 use Rattle.rounds.specs.declared.merge.MergeEnd.TheVariants as ends
 use Rattle.rounds.specs.declared.merge.Step.{Step}
 use Rattle.rounds.specs.declared.merge.Step.TheVariants as steps
-use Rattle.rounds.specs.Handled.{Ends, Handled}
+use Rattle.rounds.specs.Handled.{Ends, Handled, drawn_at}
 use Rattle.rounds.specs.Merged.{Start, Behind, Ended, WroteRound, PutRound, Sunk, Merged}
-use Rattle.rounds.specs.Merging.{ending_of, options_of, is_worked, Fails, WritesLast, Puts, GivesUp, Ahead, EndsBehind, TakesBehind, EndsCaptured}
+use Rattle.rounds.specs.Merging.{ending_of, options_of, is_worked, Fails, WritesLast, Puts, GivesUp, Ahead, EndsBehind, TakesBehind, TakesTo, EndsCaptured}
 use Rattle.rounds.specs.Reading.{GivesRound}
 use Rattle.rounds.specs.Reads.{Spot, ReadRound, Reads, is_full}
 use Rattle.rounds.specs.RoundsState.{RoundsState}
@@ -317,10 +317,10 @@ module _ (blocks : ℕ) (state : RoundsState) (file : FileHead) where
     ran_sank k old new (read ∷ rs) end (inr last) = record { later = last.0.later; flushed = last.0.flushed; rose = last.0.rose }
 
 -- merging of a whole capture
-pub all_merged : {K : Type 0} (at_sink : K → Sunk) (file : FileHead) (ready : ℕ → K → Type 0) (old new : RoundsState) (from to : Spot) (before after : K) (end : MergeEnd) → from.place.file ≡ file
-    → Handled (λ a b read k e. PutRound (options_of old) file (at_sink a) (at_sink b) read k e) ends.NoMemory ready 0 old new from to before after end
-    → Merged old new from to (at_sink before) (at_sink after) end
-all_merged at_sink file ready old new from to before after end is_file h =
+pub all_merged : {K : Type 0} (at_sink : K → Sunk) (file : FileHead) (ready : ℕ → K → Type 0) (old new : RoundsState) (from to : Spot) (before after : K) (end : MergeEnd) → from.taken ≡ old.taken → to.taken ≡ new.taken
+    → from.place.file ≡ file → Handled (λ a b read k e. PutRound (options_of old) file (at_sink a) (at_sink b) read k e) ends.NoMemory ready 0 old new from to before after end
+    → Merged old new from.place (drawn_at from) (drawn_at to) (at_sink before) (at_sink after) end
+all_merged at_sink file ready old new from to before after end first last is_file h =
     let start : Start = record { place = from.place; left = from.left; held = (at_sink before).held; taken = from.taken } in
     let gone : Behind old.blocks (options_of old) file start 0 from (at_sink before).held =
     record { told = ahead_none old.blocks (options_of old) from.place from.left (at_sink before).held from.taken; same = is_file } in
@@ -333,10 +333,10 @@ all_merged at_sink file ready old new from to before after end is_file h =
       home = h.rests.home;
       named = h.named;
       same = h.rests.same;
-      taken = ended.taken;
+      taken = subst (λ (t : ℕ). Told from.left to.left (TakesTo old.blocks old.budget from.place old.taken t (ending_of end))) last
+          (subst (λ (t : ℕ). Told from.left to.left (TakesTo old.blocks old.budget from.place t to.taken (ending_of end))) first ended.taken);
       least = h.rests.least;
       pauses = h.rests.pauses;
-      gives = h.rests.gives;
       captured = ended.captured;
       later = h.rests.later;
       later_sink = sank.later;

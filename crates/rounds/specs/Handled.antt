@@ -46,6 +46,18 @@ pub record GaveSpares (old new : Spares) : Type 0 where
   pub gave : (min (old.given + (new.lent - old.lent)) (2 ^ 64 - 1) ≤ new.given) ⊎ (risen old.refused ≤ new.refused)
   pub refused : old.refused ≤ new.refused
 
+-- what a source has left where it tells, and its faults
+pub record Drawn : Type 0 where
+  pub left : Option (List ℕ)
+  pub faults : ℕ
+
+abbrev pub source_at : {S : Type 0} → (S → Option (List ℕ)) → (S → ℕ) → S → Drawn
+source_at left faults source = record { left = left source; faults = faults source }
+
+-- that of a reader that stands here
+abbrev pub drawn_at : Spot → Drawn
+drawn_at at = record { left = at.left; faults = at.faults }
+
 -- all blocks are home, and nothing else is as it wasn't
 pub record Rests (old new : RoundsState) (from to : Spot) : Type 0 where
   pub home : new.home ≡ new.blocks

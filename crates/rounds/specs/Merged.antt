@@ -16,7 +16,7 @@ use Rattle.rounds.specs.declared.merge.Step.{Step}
 use Rattle.rounds.specs.declared.merge.Step.TheVariants as steps
 use Rattle.rounds.specs.declared.round.RoundRead.{RoundRead}
 use Rattle.rounds.specs.Merging.{ending_of, options_of, is_worked, Puts, GivesUp, Ahead, TakesTo, HoldsCaptured}
-use Rattle.rounds.specs.Handled.{FewPauses, GaveSpares}
+use Rattle.rounds.specs.Handled.{Drawn, FewPauses}
 use Rattle.rounds.specs.Reads.{Spot}
 use Rattle.rounds.specs.RoundsState.{RoundsState}
 
@@ -77,22 +77,24 @@ pub record PutRound (options : Options) (file : FileHead) (old new : Sunk) (read
 
 -- ---- the whole of a capture
 
--- merging began here and ended so, as `merge_all` of the rounds says
-pub record Merged (old new : RoundsState) (from to : Spot) (before after : Sunk) (end : MergeEnd) : Type 0 where
+-- Merging began at this place and ended so: what the source had left and has left, and what the sink held and holds.
+pub record Merged (old new : RoundsState) (place : Place) (from to : Drawn) (before after : Sunk) (end : MergeEnd)
+    : Type 0 where
+  -- of each ending, what was read and written
   pub given : Told from.left to.left
-      (Passes (merging old.blocks (options_of old) from.place) before.held after.held (ending_of end))
-  pub prefix : PrefixUnless (Rose from.faults to.faults) (merging old.blocks (options_of old) from.place)
-      from.left to.left before.held after.held
+      (Passes (merging old.blocks (options_of old) place) before.held after.held (ending_of end))
+  -- a prefix of what comes of all the bytes that were given, unless the source failed
+  pub prefix : PrefixUnless (Rose from.faults to.faults) (merging old.blocks (options_of old) place) from.left to.left
+      before.held after.held
   pub flushed : flushes (ending_of end) ≡ true → SaysFlushed after.held after.flushed true
   pub home : new.home ≡ new.blocks
   pub named : (h : ℕ → ℕ) → weighed h new.stock ≡ weighed h old.stock
   pub same : (new.blocks ≡ old.blocks) × (options_of new ≡ options_of old) × (new.keep ≡ old.keep)
-  pub taken : Told from.left to.left
-      (TakesTo old.blocks old.budget from.place from.taken to.taken (ending_of end))
+  pub taken : Told from.left to.left (TakesTo old.blocks old.budget place old.taken new.taken (ending_of end))
   pub least : old.taken ≤ new.taken
   pub pauses : FewPauses old.empties old.pauses new.empties new.pauses
-  pub gives : GaveSpares old.spares new.spares
-  pub captured : Told from.left to.left (HoldsCaptured old.blocks old.budget from.place end)
+  -- the packets that are merged are such as a capture may hold
+  pub captured : Told from.left to.left (HoldsCaptured old.blocks old.budget place end)
   pub later : from.faults ≤ to.faults
   pub later_sink : before.faults ≤ after.faults
   pub read : end ≡ ends.ReadFault → Rose from.faults to.faults

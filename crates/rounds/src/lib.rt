@@ -42,10 +42,11 @@
 //! - `handled` of [`handle_from`]: the rounds that were read stand one behind another in the capture
 //!   (`specs/Reads.antt`), and each was handled in turn up to the one that ended it (`Ran` of `specs/Handled.antt`); so
 //!   whoever says what one round does has it for all. All blocks are home.
-//! - `given` of `merge_all`: what is written, and where it stops, is what the model makes of the capture's bytes
-//!   (`merging` of `offload_model`) with all options, whole rounds alone; a round that exceeds the blocks is told by
-//!   its number and its need. After a fault, or want of memory, it is that of the bytes that are gone, or a prefix of
-//!   it. All blocks are home whatever the ending (`home`).
+//! - `merged` of `merge_all`, one record of all that merging a capture says (`Merged` of `specs/Merged.antt`). Its
+//!   `given`: what is written, and where it stops, is what the model makes of the capture's bytes (`merging` of
+//!   `offload_model`) with all options, whole rounds alone; a round that exceeds the blocks is told by its number and
+//!   its need. After a fault, or want of memory, it is that of the bytes that are gone, or a prefix of it. All blocks
+//!   are home whatever the ending (`home`).
 //! - `taken` is the count of [`Intake`]'s own takes: `read_round`, `read_ahead`, `read_on` and what goes by them raise
 //!   it, and no other call changes it (`home`, `same`), also where blocks come home on a list (`bring_in`).
 //! - `sum`, `home` of [`Intake`], `brings` of [`Bench`]: where one side reads and the other works no block is lost
@@ -63,7 +64,7 @@
 //!   want of memory a round ends between two records alone, so a paused one goes on first.
 //! - `fills`, `paused`, `refused` of `read_ahead` and `fills` of `read_on` of [`Intake`], `works`, `lends` of
 //!   `work_lent` of [`Bench`]: the same by its parts, for whoever drives rounds one by one (the crate `ahead`).
-//! - `captured` of `merge_all`: the packets that are merged are such as a capture may hold, since each was read into
+//! - `captured` of `Merged`: the packets that are merged are such as a capture may hold, since each was read into
 //!   fields of 32 bits and into bytes.
 //!
 //! That they are home is told in two ways (`specs/Out.antt`). Where taps get no clones and none are kept, each
@@ -147,7 +148,7 @@
 //! - **A round is ended before a fault of its writing is answered**, so its blocks are home whatever the ending.
 //! - **There is one loop over rounds in turn** (`handle_from`), over whatever is done with each. Merging is a handler
 //!   that writes a round (`RoundWriter`), and what it comes to is one lemma over the rounds that were read, whoever
-//!   read them (`all_merged`): so the loop knows of no bytes, and a driver with threads has the clauses of `merge_all`
+//!   read them (`all_merged`): so the loop knows of no bytes, and a driver with threads has the clause of `merge_all`
 //!   too.
 //! - **`Rounds` are two sides**, an intake that reads and has the pool, and a bench that works and has none. Where
 //!   blocks come home is told at each call: in turn it is the intake's pool, beside a list that goes back to it. So

@@ -1,22 +1,22 @@
 //! Merges the records of a capture, round by round.
-ghost use Rattle.std.specs.Prelude.{◌≡◌, ◌⊎◌, ℕ, ◌+◌, ◌≤◌, ◌^◌, ◌-◌, true, false, Option, List, map, min, IfOk};
+ghost use Rattle.std.specs.Prelude.{◌≡◌, ◌⊎◌, ℕ, ◌+◌, ◌≤◌, true, false, Option, List, map, IfOk};
 ghost use Rattle.std.specs.Prelude.{MatchResult, IsOk, length};
 ghost use Rattle.std.specs.Io.KnownBytes.{Appends, Keeps};
 ghost use Rattle.off_io.specs.Content.{SaysFlushed};
 ghost use Rattle.off_io.specs.Faults.{Rose};
-ghost use Rattle.off_io.specs.Told.{Told};
 ghost use Rattle.pcap_io.specs.declared.heads.Link.TheVariants.{Ethernet};
 ghost use Rattle.pcap_io.specs.Places.{IsReady};
 ghost use Rattle.pcap_io.specs.Readers.{place_of, source_of, SameLoan};
-ghost use Rattle.offload_model.specs.Passing.{merging, Passes, PrefixUnless, flushes};
+ghost use Rattle.offload_model.specs.Passing.{flushes};
 ghost use Rattle.offload_model.specs.Steps.{round_output};
 ghost use Rattle.gro.specs.Slots.{packet_of};
 ghost use Rattle.rounds.specs.Benches.{options_at, Brings, BringsBeside, GivesSpares, IsLent, Lends, MayBring};
+ghost use Rattle.rounds.specs.Handled.{source_at};
 ghost use Rattle.rounds.specs.Lanes.{worked_bytes};
+ghost use Rattle.rounds.specs.Merged.{sink_at, Merged};
 ghost use Rattle.rounds.specs.Weights.{weights_of, weights_worked};
 ghost use Rattle.block_pool.specs.PoolState.{weighed};
 ghost use Rattle.rounds.specs.Merging.{ending_of, options_of, is_worked, Puts, GivesUp, IfEnds};
-ghost use Rattle.rounds.specs.Merging.{HoldsCaptured, TakesTo};
 
 use crate::bench::Bench;
 use crate::handler::RoundHandler;
@@ -270,10 +270,10 @@ impl Rounds {
     /// Merges the records of a capture, round by round, up to its end: each round is read, worked, written and ended.
     /// The sink is flushed once, after the last write.
     ///
-    /// `given` says of each ending what was read and written, `prefix` that this is a prefix of what comes of all the
-    /// bytes that were given, unless the source failed, and `captured` that the packets are such as a capture may hold.
-    /// A read fault or a write fault only where the count of the source or the sink rose. All blocks are home again,
-    /// whatever the ending.
+    /// Of `merged`, `given` says of each ending what was read and written, `prefix` that this is a prefix of what comes
+    /// of all the bytes that were given, unless the source failed, and `captured` that the packets are such as a
+    /// capture may hold. A read fault or a write fault only where the count of the source or the sink rose. All blocks
+    /// are home again, whatever the ending.
     pub fn merge_all<W: Works, S: Source, K: Sink>(
         &mut self,
         works: &mut W,
@@ -286,31 +286,9 @@ impl Rounds {
         requires file { (place_of reader.old).file ≡ file.now }
         requires home { self.old.home ≡ self.old.blocks }
         ensures same_source { SameLoan reader.old reader.new }
-        ensures given { Told (S.left (source_of reader.old)) (S.left (source_of reader.new))
-            (Passes (merging self.old.blocks (options_of self.old) (place_of reader.old)) (K.held sink.old)
-            (K.held sink.new) (ending_of result)) }
-        ensures prefix { PrefixUnless (Rose (S.faults (source_of reader.old)) (S.faults (source_of reader.new)))
-            (merging self.old.blocks (options_of self.old) (place_of reader.old)) (S.left (source_of reader.old))
-            (S.left (source_of reader.new)) (K.held sink.old) (K.held sink.new) }
-        ensures flushed { flushes (ending_of result) ≡ true
-            → SaysFlushed (K.held sink.new) (K.is_flushed sink.new) true }
-        ensures home { self.new.home ≡ self.new.blocks }
-        ensures named { (h : ℕ → ℕ) → weighed h self.new.stock ≡ weighed h self.old.stock }
-        ensures same { (self.new.blocks ≡ self.old.blocks) × (options_of self.new ≡ options_of self.old)
-            × (self.new.keep ≡ self.old.keep) }
-        ensures taken { Told (S.left (source_of reader.old)) (S.left (source_of reader.new))
-            (TakesTo self.old.blocks self.old.budget (place_of reader.old) self.old.taken self.new.taken
-            (ending_of result)) }
-        ensures least { self.old.taken ≤ self.new.taken }
-        ensures pauses { (self.old.pauses ≤ self.new.pauses)
-            × (min (self.old.empties + (self.new.pauses - self.old.pauses)) (2 ^ 64 - 1) ≤ self.new.empties) }
-        ensures captured { Told (S.left (source_of reader.old)) (S.left (source_of reader.new))
-            (HoldsCaptured self.old.blocks self.old.budget (place_of reader.old) result) }
-        ensures later { S.faults (source_of reader.old) ≤ S.faults (source_of reader.new) }
-        ensures later_sink { K.faults sink.old ≤ K.faults sink.new }
-        ensures read { result ≡ MergeEnd.ReadFault → Rose (S.faults (source_of reader.old))
-            (S.faults (source_of reader.new)) }
-        ensures write { result ≡ MergeEnd.WriteFault → Rose (K.faults sink.old) (K.faults sink.new) }
+        ensures merged { Merged self.old self.new (place_of reader.old)
+            (source_at S.left S.faults (source_of reader.old)) (source_at S.left S.faults (source_of reader.new))
+            (sink_at K.held K.is_flushed K.faults sink.old) (sink_at K.held K.is_flushed K.faults sink.new) result }
     {
         handle_from(works, self, reader, &RoundWriter { file: *file }, sink, 0)
     }

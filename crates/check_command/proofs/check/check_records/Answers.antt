@@ -31,10 +31,11 @@ count_behind-end-requires-clause-start g c =
 
 pub returns-clause-given : goal.returns-clause-given
 returns-clause-given g c =
+    let m = c.count_behind-end.ensures.checked in
     all_checked (first_line c.args.made) c.args.options c.in-Ok.rounds (first_place c.args.file Ethernet 0) c.in-Ok-make.totals c.count_behind-end.new.totals _ _ _ _ _ _
     c.count_behind-end.result c.tell.result c.in-Ok.ensures.made
     (from_nothing c.args.options c.in-Ok.rounds c.in-Ok-make.totals c.in-Ok.ensures.made c.in-Ok-make.ensures.made)
-    c.count_behind-end.ensures.given c.tell.ensures.told c.count_behind-end.ensures.read
+    m.given c.tell.ensures.told m.read
 
 pub returns-in-Err-make-clause-left : goal.returns-in-Err-make-clause-left
 returns-in-Err-make-clause-left g c =
@@ -43,9 +44,9 @@ returns-in-Err-make-clause-left g c =
 pub returns-clause-left : goal.returns-clause-left
 returns-clause-left g c =
     let made = c.in-Ok.ensures.made in
-    let m = c.count_behind-end.ensures in
+    let m = c.count_behind-end.ensures.checked in
     let s = c.tell.ensures in
-    let blocks = m.same ∙ ap (λ (r : RoundsState). r.blocks) made in
+    let blocks = m.same.0 ∙ ap (λ (r : RoundsState). r.blocks) made in
     let home = m.home ∙ blocks in
     let need = λ (rest : List ℕ). round_need (found_at (first_place c.args.file Ethernet 0) rest).packets in
     let none = ap (λ (r : RoundsState). r.taken) made in
@@ -64,7 +65,7 @@ returns-clause-left g c =
 
 pub returns-clause-caused : goal.returns-clause-caused
 returns-clause-caused g c =
-    let m = c.count_behind-end.ensures in
+    let m = c.count_behind-end.ensures.checked in
     let s = c.tell.ensures in
     record {
       not_usage = s.not_usage;

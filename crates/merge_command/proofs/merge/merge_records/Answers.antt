@@ -25,7 +25,7 @@ returns-clause-given g c =
     subst (λ (e : Option Ending). Told a b (Ends (Passes (merging o.blocks (options o) place) old new) e)) (sym
     c.status_of.ensures.ending)
     (subst (λ (r : RoundsState). Told a b (Passes (merging r.blocks (rounds_options r) place) old new (merge_ending
-    m.result))) c.in-Ok.ensures.made m.ensures.given)
+    m.result))) c.in-Ok.ensures.made m.ensures.merged.given)
 
 pub returns-clause-captured : goal.returns-clause-captured
 returns-clause-captured g c =
@@ -38,15 +38,15 @@ returns-clause-captured g c =
     c.status_of.ensures.is)
     (captured_by o.blocks o.budget place m.result a b
     (subst (λ (r : RoundsState). Told a b (HoldsCaptured r.blocks r.budget place m.result)) c.in-Ok.ensures.made
-    m.ensures.captured))
+    m.ensures.merged.captured))
 
 pub returns-clause-left : goal.returns-clause-left
 returns-clause-left g c =
     let made = c.in-Ok.ensures.made in
-    let m = c.merge_behind-end in
+    let m = c.merge_behind-end.ensures.merged in
     let s = c.status_of.ensures in
-    let blocks = m.ensures.same ∙ ap (λ (r : RoundsState). r.blocks) made in
-    let home = m.ensures.home ∙ blocks in
+    let blocks = m.same.0 ∙ ap (λ (r : RoundsState). r.blocks) made in
+    let home = m.home ∙ blocks in
     let need = λ (rest : List ℕ). round_need (found_at (first_place c.args.file Ethernet 0) rest).packets in
     record {
       blocks = s.blocks;
@@ -54,16 +54,16 @@ returns-clause-left g c =
         blocks,
         home,
         taken_first need _ _ _ _ (ap (λ (r : RoundsState). r.taken) made)
-            (subst (λ (e : MergeEnd). Told (g.S.Source.left c.args.source.now) (g.S.Source.left m.new.source)
+            (subst (λ (e : MergeEnd). Told (g.S.Source.left c.args.source.now) (g.S.Source.left c.merge_behind-end.new.source)
             (TakesTo c.in-Ok.rounds.blocks c.in-Ok.rounds.budget (first_place c.args.file Ethernet 0) c.in-Ok.rounds.taken
-            m.new.rounds.taken (merge_ending e))) (s.done ok) m.ensures.taken),
+            c.merge_behind-end.new.rounds.taken (merge_ending e))) (s.done ok) m.taken),
       );
       home = (blocks, home);
     }
 
 pub returns-clause-caused : goal.returns-clause-caused
 returns-clause-caused g c =
-    let m = c.merge_behind-end.ensures in
+    let m = c.merge_behind-end.ensures.merged in
     let s = c.status_of.ensures in
     record {
       not_usage = s.not_usage;
