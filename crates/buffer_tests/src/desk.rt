@@ -7,7 +7,9 @@ ghost use Rattle.std.specs.Prelude.{◌≡◌, ◌<◌, [], All, length};
 
 use crate::seeing::assert_same;
 use crossbeam_queue::ArrayQueue;
-use errands::{Alone, Asker, Bells, Crew, Errands, Job, Naming, Reply, Runner, Works, serve};
+use errands::{
+    Asker, Caller, Crew, DeskName, DoesTasks, Errands, Job, Parkers, Reply, Runner, serve,
+};
 use off_io::{Gate, Meeting, NoGate, Who};
 use std::alloc::{AllocError, Global};
 use std::collections::VecDeque;
@@ -45,7 +47,7 @@ impl<G: Gate> Job<Task, Answer> for Passing<'_, G> {
 }
 
 // Whether each answer of a round stands at its task's place.
-fn is_round_right<W: Works<Task, Answer>>(
+fn is_round_right<W: DoesTasks<Task, Answer>>(
     works: &mut W,
     alloc: Global,
     count: u32,
@@ -66,7 +68,7 @@ fn is_round_right<W: Works<Task, Answer>>(
 }
 
 // How many rounds are right.
-fn rounds_by<W: Works<Task, Answer>>(
+fn rounds_by<W: DoesTasks<Task, Answer>>(
     works: &mut W,
     alloc: Global,
     rounds: u32,
@@ -85,16 +87,16 @@ fn rounds_by<W: Works<Task, Answer>>(
 fn beside<
     'a,
     J: Job<Task, Answer> + Send + Sync,
-    N: Naming + Send + Sync,
+    N: DeskName + Send + Sync,
     R: Threads + Wait + Sync,
-    W: Works<Task, Answer>,
+    W: DoesTasks<Task, Answer>,
 >(
     rt: &'a R,
     alloc: Global,
     errands: &'a Errands<Task>,
     replies: &'a ArrayQueue<Reply<Task, Answer, J, N>>,
     job: &'a J,
-    bells: &'a Bells,
+    parkers: &'a Parkers,
     runners: &'a mut [Runner<Task>],
     works: &'a mut W,
     rounds: u32,
@@ -118,12 +120,12 @@ fn beside<
                 rt,
                 runners,
                 beside,
-                &|index, runner| { serve(rt, errands, runner, replies, job, bells, index) },
+                &|index, runner| { serve(rt, errands, runner, replies, job, parkers, index) },
             )
         },
         &mut || -> Result<u32, AllocError> {
             let right = rounds_by(works, alloc, rounds, count);
-            bells.close();
+            parkers.close();
             right
         },
     );
@@ -131,7 +133,7 @@ fn beside<
 }
 
 // Rounds by a crew with so many beside the thread that asks.
-fn by_crew_named<N: Naming + Send + Sync, R: Threads + Wait + Sync, G: Gate + Sync>(
+fn by_crew_named<N: DeskName + Send + Sync, R: Threads + Wait + Sync, G: Gate + Sync>(
     rt: &R,
     alloc: Global,
     errands: &Errands<Task>,
@@ -147,7 +149,7 @@ fn by_crew_named<N: Naming + Send + Sync, R: Threads + Wait + Sync, G: Gate + Sy
     let mut asker = asker;
     let job = Passing { gate };
     let replies = ArrayQueue::new(alloc, 8)?;
-    let bells = Bells::make(alloc, beside_it)?;
+    let parkers = Parkers::make(alloc, beside_it)?;
     let mut runners = errands.enlist_all(alloc, &mut asker, beside_it)?;
     let own = errands.enlist(&mut asker);
     let mut crew = Crew::new(
@@ -155,7 +157,7 @@ fn by_crew_named<N: Naming + Send + Sync, R: Threads + Wait + Sync, G: Gate + Sy
         errands,
         &replies,
         &job,
-        &bells,
+        &parkers,
         asker,
         own,
         Vec::new(alloc),
@@ -166,7 +168,7 @@ fn by_crew_named<N: Naming + Send + Sync, R: Threads + Wait + Sync, G: Gate + Sy
         errands,
         &replies,
         &job,
-        &bells,
+        &parkers,
         &mut runners,
         &mut crew,
         rounds,
@@ -189,7 +191,7 @@ fn by_crew<R: Threads + Wait + Sync, G: Gate + Sync>(
 #[test]
 fn answers_stand_in_the_order_of_the_tasks(rt: HostRuntime) {
     let alloc = rt.alloc();
-    let mut alone = Alone {
+    let mut alone = Caller {
         job: &Passing { gate: &NoGate },
     };
     let right = [

@@ -1,2 +1,2 @@
 -- what comes home by several steps
-mod Meeting
+mod InTurn

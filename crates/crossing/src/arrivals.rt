@@ -1,151 +1,144 @@
-//! What comes in at the desk while rounds are read.
-ghost use Rattle.std.specs.Prelude.{◌≡◌, ℕ, ◌+◌, ◌-◌, ◌<◌, ◌≤◌, ◌^◌, true, false, min};
-ghost use Rattle.block_pool.specs.PoolState.{home};
-ghost use Rattle.crossing.specs.Desks.{brought_to, weights_to, Meets};
+//! Where lists arrive at the side that reads, and their blocks go home.
+ghost use Rattle.std.specs.Prelude.{◌≡◌, ◌≤◌, is_some};
+ghost use Rattle.std.specs.Arc.{arc_value};
+ghost use Rattle.rtrb.specs.Ring.{sent, SameProducer};
 
-use crate::desk::Desk;
+use crate::handshake::Ended;
+use crate::lent::Away;
 use crate::post::Post;
+use crate::ring::has_place;
 use block_pool::Pool;
-use block_supply::Supply;
-use std::hint;
+use block_supply::Taker;
+use rtrb::{Producer, Protocol};
+use std::alloc::{AllocError, Global};
 
-/// Before the side that reads sleeps for want of blocks it looks this often for a list, and waits so many turns of a
-/// loop between two looks.
-const LOOKS: u32 = 16;
+/// As many rounds are on their way at once, each from when it is read until its blocks are given.
+pub const ROUNDS: usize = 3;
 
-/// So many lists come in before a round is read, at most; others wait for the next one.
-const MOST_LISTS: u32 = 219;
+/// The places of the ring. While none is free no round is read, so with the one that is worked they are all.
+pub const IN_RING: usize = ROUNDS - 1;
 
-impl<W: Post + Drop> Desk<W> {
-    // The memory of a list goes away with a round again, once its blocks are home.
-    fn keep_spent(&mut self)
-        ensures sum { brought_to self.new ≡ brought_to self.old }
-        ensures named { (h : ℕ → ℕ) → weights_to self.new h ≡ weights_to self.old h }
-        ensures same { self.new.taker.pass ≡ self.old.taker.pass }
+/// The end where lists come back, and what is away with rounds. Where a round is paused for want of blocks they are
+/// waited for, whatever comes; `stopped` says that the other side takes no more rounds.
+#[derive(Drop)]
+pub struct Arrivals<W: Post + Drop> {
+    /// Where this side waits, and from where it wakes the other.
+    pub(crate) post: W,
+    /// How many blocks there are in all. A list for those of a round has as many places.
+    pub(crate) blocks: u32,
+    // Emptied lists, whose memory goes away with rounds again.
+    pub(crate) spent: Vec<Pool>,
+    /// This side's end of the pool of lists.
+    pub(crate) taker: Taker,
+    /// The blocks that are out, by this side's own count.
+    pub(crate) away: Away,
+    /// Set as a round is paused for want of blocks, until it goes away.
+    pub(crate) paused: bool,
+    /// There once the other side has said so, and never taken back.
+    pub(crate) stopped: Option<Ended>,
+    /// The pool of lists is the one that contracts of the whole run name.
+    pub ghost pooled: { arc_value taker.lists ≡ W.lists },
+}
+
+/// Empty lists for so many blocks, for all rounds that may be away but the first one and the one that is worked.
+pub fn new_spent(alloc: Global, blocks: u32) -> Result<Vec<Pool>, AllocError>
+    requires few { blocks ≤ 65536 }
+{
+    let mut spent = Vec::with_capacity(alloc, ROUNDS)?;
+    for _ in 1..ROUNDS {
+        spent.push(Pool::empty(alloc, blocks)?)?;
+    }
+    Ok(spent)
+}
+
+impl<W: Post + Drop> Arrivals<W> {
+    /// A round is away already.
+    pub fn new(post: W, blocks: u32, away: Away, spent: Vec<Pool>, taker: Taker) -> Arrivals<W>
+        requires pooled { arc_value taker.lists ≡ W.lists }
+        ensures same { result.taker ≡ taker }
     {
-        if self.spent.len() == self.spent.capacity() {
-            return;
-        }
-        if let Some(list) = self.taker.take_spent(self.blocks) {
-            self.spent.push_reserved(list);
+        Arrivals {
+            post,
+            blocks,
+            spent,
+            taker,
+            away,
+            paused: false,
+            stopped: None,
         }
     }
 
-    // One list, if one has come.
-    fn meet_list(&mut self, pool: &mut Pool) -> bool
-        ensures meets { Meets pool.old pool.new self.old self.new }
-        ensures came { result ≡ true → home pool.old < home pool.new }
-        ensures refused { result ≡ false → home pool.old < pool.old.made
-            → min (self.old.taker.pass.empties + 1) (2 ^ 64 - 1) ≤ self.new.taker.pass.empties }
+    /// What is left here of lists.
+    pub fn close(self) -> Taker
+        ensures same { result ≡ self.taker }
     {
-        let before = pool.home();
-        let came = self.post.bring_list(&mut self.taker, pool);
-        self.away.meet(pool.home() - before);
-        self.keep_spent();
-        came
+        let Arrivals {
+            post: _post,
+            blocks: _,
+            spent: _spent,
+            taker,
+            away: _,
+            paused: _,
+            stopped: _,
+        } = self;
+        taker
     }
 
-    // A list, however long that takes, unless the other side has stopped. The side that reads looks for a while; then
-    // it says that it waits, wakes the other one, which may have a list that found no place, looks once more, and
-    // sleeps between its looks.
-    fn await_list(&mut self, pool: &mut Pool)
-        ensures meets { Meets pool.old pool.new self.old self.new }
+    /// Whether reading may begin.
+    pub fn begin(&self) -> bool {
+        self.post.begin()
+    }
+
+    /// Wakes the other side.
+    pub fn wake(&self) {
+        self.post.wake();
+    }
+
+    /// Whether the other side takes no more rounds: only where it has said so.
+    pub fn has_stopped(&self) -> bool
+        ensures stopped { result ≡ is_some self.now.stopped }
     {
-        for turn in 0..u64::MAX {
-            self.ask_end();
-            if self.meet_list(pool) || self.has_stopped() {
-                self.post.end_wait();
-                return;
-            }
-            if turn < LOOKS as u64 {
-                pause();
-            } else if turn == LOOKS as u64 {
-                self.post.begin_wait();
-                self.post.wake();
-            } else {
-                self.post.sleep();
-            }
+        self.stopped.is_some()
+    }
+
+    // Whether the other side has stopped: what it gave before that is found by the next look for a list.
+    pub(crate) fn ask_end(&mut self)
+        ensures same { self.new.taker ≡ self.old.taker }
+    {
+        if self.stopped.is_none() {
+            self.stopped = self.post.has_ended();
         }
-        self.post.stall();
-        unreachable!()
     }
 
-    // As many blocks as are needed, however long that takes, unless the other side has stopped. Where no list is due
-    // before the last round is written, and none is found, the blocks are the rest of that round's: then the round that
-    // is read is paused, if it isn't yet. It ends with fewer only behind a take that found no list.
-    fn meet_needed(&mut self, pool: &mut Pool, need: u32)
-        ensures meets { Meets pool.old pool.new self.old self.new }
-        ensures refused { need ≤ pool.old.made → home pool.new < need
-            → min (self.old.taker.pass.empties + 1) (2 ^ 64 - 1) ≤ self.new.taker.pass.empties }
+    /// Waits until there is a place for a round, or the other side has stopped.
+    pub fn await_place<T, P: Protocol<T>>(&mut self, ring: &mut Producer<T, Global, P>)
+        ensures ring { SameProducer ring.old ring.new }
+        ensures sent { sent ring.new ≡ sent ring.old }
+        ensures same { self.new.taker ≡ self.old.taker }
     {
         for _ in 0..u64::MAX {
-            if pool.home() >= need {
+            self.ask_end();
+            if self.has_stopped() || has_place(ring) {
                 return;
             }
-            if !self.has_stopped() && (self.paused || self.away.may_bring()) {
-                self.await_list(pool);
-            } else if !self.meet_list(pool) {
-                self.paused = true;
-                return;
-            }
+            self.post.sleep();
         }
         self.post.stall();
         unreachable!()
     }
 
-    // All further lists that have come: their blocks, which somebody just had, are taken next.
-    fn meet_lists(&mut self, pool: &mut Pool)
-        ensures meets { Meets pool.old pool.new self.old self.new }
+    /// The memory of a list, for the blocks of a round that goes away.
+    pub fn pick(&mut self) -> Option<Pool>
+        ensures same { self.new.taker ≡ self.old.taker }
     {
-        for _ in 0..MOST_LISTS {
-            if !self.meet_list(pool) {
-                return;
-            }
-        }
+        self.spent.pop()
     }
 
-    // All lists that have come, before a round is read.
-    fn meet_all(&mut self, pool: &mut Pool)
-        ensures meets { Meets pool.old pool.new self.old self.new }
-        ensures looked { home pool.new ≡ home pool.old → home pool.old < pool.old.made
-            → min (self.old.taker.pass.empties + 1) (2 ^ 64 - 1) ≤ self.new.taker.pass.empties }
+    /// A round goes away, of so many blocks and spares.
+    pub fn lend(&mut self, blocks: u32, spares: u32)
+        ensures same { self.new.taker ≡ self.old.taker }
     {
-        self.ask_end();
-        if self.meet_list(pool) {
-            self.meet_lists(pool);
-        }
-    }
-}
-
-// Some turns of a loop.
-fn pause() {
-    for _ in 0..LOOKS {
-        hint::spin_loop();
-    }
-}
-
-impl<W: Post + Drop> Supply for Desk<W> {
-    ghost use Rattle.std.specs.Prelude.{is_some};
-    ghost use Rattle.crossing.specs.Desks.{weights_to};
-
-    ghost weights = { weights_to };
-
-    ghost refusals = { λ d. d.taker.pass.empties };
-
-    ghost ended = { λ d. is_some d.stopped };
-
-    /// Behind a no that paused a round it waits, and says no again only where the other side has stopped.
-    fn bring(&mut self, pool: &mut Pool, need: u32) -> bool {
-        self.meet_needed(pool, need);
-        need <= pool.home()
-    }
-
-    /// All lists come in that have come.
-    fn look(&mut self, pool: &mut Pool) {
-        self.meet_all(pool);
-    }
-
-    fn has_ended(&self) -> bool {
-        self.has_stopped()
+        self.away.lend(blocks, spares);
+        self.paused = false;
     }
 }

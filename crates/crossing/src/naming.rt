@@ -5,13 +5,13 @@ ghost use Rattle.block_pool.specs.PassState.{SharedState};
 use std::marker::Brand;
 
 /// How many blocks there are, and the pool by which lists of them come back: the call of a whole run says it.
-pub trait Naming {
+pub trait PoolName {
     ghost blocks: { ℕ };
 
     ghost lists: { SharedState };
 }
 
-impl Naming for Brand {
+impl PoolName for Brand {
     ghost use Rattle.block_supply.specs.Lists.{no_lists};
 
     ghost blocks = { 0 };

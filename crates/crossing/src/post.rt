@@ -5,8 +5,8 @@ ghost use Rattle.block_pool.specs.PassState.{SharedState};
 ghost use Rattle.block_pool.specs.PoolState.{home, weighed};
 ghost use Rattle.block_supply.specs.Lists.{listed_home, weights_home};
 
-use crate::bells::{Bells, Ended};
-use crate::naming::Naming;
+use crate::handshake::{Ended, Handshake};
+use crate::naming::PoolName;
 use block_pool::Pool;
 use block_supply::Taker;
 use std::marker::PhantomData;
@@ -56,34 +56,34 @@ pub trait Post {
 
 /// The thread that reads, which sleeps until its bell rings.
 #[derive(Drop)]
-pub struct Sleeper<'a, R, N: Naming> {
+pub struct Sleeper<'a, R, N: PoolName> {
     /// By which it sleeps.
     rt: &'a R,
     /// It sleeps by the reader's, and rings the worker's.
-    bells: &'a Bells,
+    handshake: &'a Handshake,
     /// Whose pool it is, for contracts alone.
     of: PhantomData<N>,
 }
 
-impl<'a, R, N: Naming> Sleeper<'a, R, N> {
-    pub fn new(rt: &'a R, bells: &'a Bells) -> Sleeper<'a, R, N> {
+impl<'a, R, N: PoolName> Sleeper<'a, R, N> {
+    pub fn new(rt: &'a R, handshake: &'a Handshake) -> Sleeper<'a, R, N> {
         Sleeper {
             rt,
-            bells,
+            handshake,
             of: PhantomData,
         }
     }
 }
 
-impl<R: Wait, N: Naming> Post for Sleeper<'_, R, N> {
+impl<R: Wait, N: PoolName> Post for Sleeper<'_, R, N> {
     ghost lists = { N.lists };
 
     fn begin(&self) -> bool {
-        self.bells.begin()
+        self.handshake.begin()
     }
 
     fn has_ended(&self) -> Option<Ended> {
-        self.bells.has_ended()
+        self.handshake.has_ended()
     }
 
     fn bring_list(&self, taker: &mut Taker, pool: &mut Pool) -> bool {
@@ -91,15 +91,15 @@ impl<R: Wait, N: Naming> Post for Sleeper<'_, R, N> {
     }
 
     fn begin_wait(&self) {
-        self.bells.reader.begin();
+        self.handshake.reader.begin();
     }
 
     fn sleep(&self) {
-        self.bells.reader.sleep(self.rt);
+        self.handshake.reader.sleep(self.rt);
     }
 
     fn end_wait(&self) {
-        self.bells.reader.end();
+        self.handshake.reader.end();
     }
 
     fn stall(&self) {
@@ -108,6 +108,6 @@ impl<R: Wait, N: Naming> Post for Sleeper<'_, R, N> {
     }
 
     fn wake(&self) {
-        self.bells.worker.wake();
+        self.handshake.worker.wake();
     }
 }

@@ -6,7 +6,7 @@ ghost use lib.ListN.{get_elem?};
 ghost use Rattle.crossbeam_queue.specs.Passes.{view, IsPassOf, IsSamePass};
 ghost use Rattle.errands.specs.Rule.{times, slip};
 
-use crate::rule::{Asked, Asks, Blank, Brings, Ends, Knows, Notes, Slip, Takes, Tasks};
+use crate::rule::{Asked, Asks, Brings, Ends, FreshPass, Knows, Notes, Slip, TakesTask, Tasks};
 use crossbeam_queue::Pass;
 use std::alloc::{AllocError, Global};
 use std::marker::Model;
@@ -117,7 +117,7 @@ impl<T: Drop> Errands<T> {
         ensures same { asker.new ≡ asker.old }
         ensures own { result ≡ self.now }
     {
-        let pass = self.queue.another::<Blank>(&mut asker.pass);
+        let pass = self.queue.another::<FreshPass>(&mut asker.pass);
         Runner { pass }
     }
 
@@ -158,7 +158,7 @@ impl<T: Drop> Errands<T> {
         requires own { runner.old ≡ self.now }
         ensures same { runner.new ≡ runner.old }
     {
-        self.queue.is_empty_as::<Takes>(&mut runner.pass)
+        self.queue.is_empty_as::<TakesTask>(&mut runner.pass)
     }
 
     /// The task that waits for longest, if any does, and a note of it.
@@ -167,7 +167,7 @@ impl<T: Drop> Errands<T> {
         ensures same { runner.new ≡ runner.old }
         ensures note { IfSome result (λ r. (r.1.desk ≡ self.now) × (r.1.task ≡ r.0 ∷ [])) }
     {
-        let Asked { number, task } = self.queue.pop_as::<Takes, R>(rt, &mut runner.pass)?;
+        let Asked { number, task } = self.queue.pop_as::<TakesTask, R>(rt, &mut runner.pass)?;
         let pass = self.queue.another::<Notes>(&mut runner.pass);
         Some((task, Note { pass, number }))
     }

@@ -17,11 +17,11 @@
 //! | [`Asker`] | asks, and takes notes in; there is one |
 //! | [`Runner`] | takes tasks; as many as are enlisted |
 //! | [`Job`] | what is done of a task |
-//! | [`Works`] | all tasks of a list, done by the thread that calls ([`Alone`]) or by a crew ([`Crew`]) |
+//! | [`DoesTasks`] | all tasks of a list, done by the thread that calls ([`Caller`]) or by a crew ([`Crew`]) |
 //!
 //! Proved: `task`, `first` of `Errands::redeem`: a note's task is the one of its number, and no note of that number
-//! came before. `did` of `do_all` and of `Works::do_tasks`: each answer is one of its task, in the order of the tasks,
-//! whoever did it and in whatever order. Only tested: that several run at once. Not said: that a thread runs or is
+//! came before. `did` of `do_all` and of `DoesTasks::do_tasks`: each answer is one of its task, in the order of the
+//! tasks, whoever did it and in whatever order. Only tested: that several run at once. Not said: that a thread runs or is
 //! woken; who asks runs tasks itself while it waits, so a run ends without any runner.
 //!
 //! ```
@@ -42,12 +42,12 @@
 //!   of names that are chosen before the run, and blocks are made while it goes.
 #![tactic(auto)]
 
-mod crew;
 mod desk;
+mod doing;
 mod rule;
-mod works;
+mod serving;
 
-pub use crew::{Bells, Job, Naming, Reply, do_all, serve};
 pub use desk::{Asker, Errands, Note, Runner};
+pub use doing::{Caller, Crew, DoesTasks};
 pub use rule::{Asked, Slip};
-pub use works::{Alone, Crew, Works};
+pub use serving::{DeskName, Job, Parkers, Reply, do_all, serve};

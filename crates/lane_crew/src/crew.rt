@@ -11,7 +11,7 @@ use crate::loads::SpareLoads;
 use crate::tasks::{LaneDone, LaneJob, LaneTask};
 use block_pool::Giver;
 use crossbeam_queue::ArrayQueue;
-use errands::{Asker, Bells, Crew, Errands, Job, Naming, Reply, Runner, Works as DoesTasks, serve};
+use errands::{Asker, Crew, DeskName, DoesTasks, Errands, Job, Parkers, Reply, Runner, serve};
 use gro::Packets;
 use lanes::{FrameLengths, LanePlan, Lanes, SOME_PACKETS, Works, give_back, run_and_give};
 use off_io::{Gate, Who};
@@ -40,7 +40,7 @@ pub struct LaneDesk {
     /// Those beside it.
     pub runners: Vec<Runner<LaneTask>>,
     /// By which who asks and who run tasks wake each other.
-    pub bells: Bells,
+    pub parkers: Parkers,
 }
 
 /// How many run tasks beside who asks, so that as many lanes are at work as there are processors for, of which the side
@@ -64,20 +64,20 @@ pub fn open_desk(alloc: Global, runners: u32) -> Result<LaneDesk, AllocError>
     let (errands, mut asker) = Errands::open(alloc, LANES)?;
     let beside = errands.enlist_all(alloc, &mut asker, runners)?;
     let own = errands.enlist(&mut asker);
-    let bells = Bells::make(alloc, runners)?;
+    let parkers = Parkers::make(alloc, runners)?;
     Ok(LaneDesk {
         errands,
         asker,
         own,
         runners: beside,
-        bells,
+        parkers,
     })
 }
 
 /// Who asks at a desk, with all who run its tasks. While it waits it runs tasks itself, so it needs no one else.
 /// Places for a round are reserved before.
 #[derive(Drop)]
-pub struct LaneCrew<'a, 'g, G: Gate, N: Naming, R: Wait> {
+pub struct LaneCrew<'a, 'g, G: Gate, N: DeskName, R: Wait> {
     /// The tasks of lanes go by it, where two or more have something to do.
     crew: Crew<'a, LaneTask, LaneDone, LaneJob<'g, G, R>, N, R>,
     /// For lanes that this thread works without a task.
@@ -93,7 +93,7 @@ pub struct LaneCrew<'a, 'g, G: Gate, N: Naming, R: Wait> {
     spare: SpareLoads,
 }
 
-impl<'a, 'g, G: Gate, N: Naming, R: Wait> Model for LaneCrew<'a, 'g, G, N, R> {
+impl<'a, 'g, G: Gate, N: DeskName, R: Wait> Model for LaneCrew<'a, 'g, G, N, R> {
     ghost use Rattle.std.specs.Prelude.{◌≡◌, []};
     ghost use Rattle.atomic_table.specs.Seated.{TableId};
 
@@ -104,7 +104,7 @@ impl<'a, 'g, G: Gate, N: Naming, R: Wait> Model for LaneCrew<'a, 'g, G, N, R> {
     ghost invariant = { λ c. (c.tasks.items ≡ []) × (c.done.items ≡ []) };
 }
 
-impl<'a, 'g, G: Gate, N: Naming, R: Wait> LaneCrew<'a, 'g, G, N, R> {
+impl<'a, 'g, G: Gate, N: DeskName, R: Wait> LaneCrew<'a, 'g, G, N, R> {
     /// The crew of a desk at which nothing was asked yet.
     pub fn new(
         rt: &'a R,
@@ -112,7 +112,7 @@ impl<'a, 'g, G: Gate, N: Naming, R: Wait> LaneCrew<'a, 'g, G, N, R> {
         errands: &'a Errands<LaneTask>,
         replies: &'a ArrayQueue<Reply<LaneTask, LaneDone, LaneJob<'g, G, R>, N>>,
         job: &'a LaneJob<'g, G, R>,
-        bells: &'a Bells,
+        parkers: &'a Parkers,
         asker: Asker<LaneTask>,
         own: Runner<LaneTask>,
     ) -> Result<LaneCrew<'a, 'g, G, N, R>, AllocError>
@@ -125,7 +125,7 @@ impl<'a, 'g, G: Gate, N: Naming, R: Wait> LaneCrew<'a, 'g, G, N, R> {
         let tasks = VecDeque::with_capacity(alloc, LANES)?;
         let done = VecDeque::with_capacity(alloc, LANES)?;
         Ok(LaneCrew {
-            crew: Crew::new(rt, errands, replies, job, bells, asker, own, places),
+            crew: Crew::new(rt, errands, replies, job, parkers, asker, own, places),
             gate: job.gate,
             rt: job.rt,
             beside,
@@ -137,7 +137,7 @@ impl<'a, 'g, G: Gate, N: Naming, R: Wait> LaneCrew<'a, 'g, G, N, R> {
 }
 
 // The lanes that have something to do go to the desk as tasks, and come back.
-fn run_by_tasks<G: Gate, N: Naming, R: Wait>(
+fn run_by_tasks<G: Gate, N: DeskName, R: Wait>(
     crew: &mut Crew<'_, LaneTask, LaneDone, LaneJob<'_, G, R>, N, R>,
     gate: &G,
     rt: &R,
@@ -162,7 +162,7 @@ fn run_by_tasks<G: Gate, N: Naming, R: Wait>(
     }
 }
 
-impl<G: Gate, N: Naming, R: Wait> Works for LaneCrew<'_, '_, G, N, R> {
+impl<G: Gate, N: DeskName, R: Wait> Works for LaneCrew<'_, '_, G, N, R> {
     ghost use Rattle.std.specs.Prelude.{true};
 
     ghost gives = { true };
@@ -216,7 +216,7 @@ impl<G: Gate, N: Naming, R: Wait> Works for LaneCrew<'_, '_, G, N, R> {
 /// All who run tasks beside who asks, each in a thread of its own, until the run is over.
 pub fn serve_lanes<
     J: Job<LaneTask, LaneDone> + Send + Sync,
-    N: Naming + Send + Sync,
+    N: DeskName + Send + Sync,
     R: Threads + Wait + Sync,
 >(
     rt: &R,
@@ -224,7 +224,7 @@ pub fn serve_lanes<
     runners: &mut [Runner<LaneTask>],
     replies: &ArrayQueue<Reply<LaneTask, LaneDone, J, N>>,
     job: &J,
-    bells: &Bells,
+    parkers: &Parkers,
 )
     requires own { errands.now ≡ N.desk }
     requires runners { All (λ r. r ≡ errands.now) runners.old }
@@ -237,6 +237,6 @@ pub fn serve_lanes<
         rt,
         runners,
         count,
-        &|index, runner| { serve(rt, errands, runner, replies, job, bells, index) },
+        &|index, runner| { serve(rt, errands, runner, replies, job, parkers, index) },
     );
 }

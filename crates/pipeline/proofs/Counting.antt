@@ -2,14 +2,14 @@
 use Rattle.std.proofs.Common.{◌≡◌, ◌+◌, ◌-◌, ◌^◌, ◌≤◌, ℕ, min, sym, subst, arith}
 use Rattle.block_pool.specs.PoolState.{PoolState, home}
 use Rattle.block_supply.proofs.Listing.{listed_ones}
-use Rattle.crossing.specs.Desks.{brought_to, weights_to}
-use Rattle.crossing.specs.declared.desk.Desk.{Desk}
+use Rattle.crossing.specs.Arriving.{brought_to, weights_to}
+use Rattle.crossing.specs.declared.arrivals.Arrivals.{Arrivals}
 use Rattle.crossing.specs.declared.post.Post.{Ghosts}
 use Rattle.rounds.specs.Benches.{HasRoom, MayBring}
 use Rattle.rounds.specs.Handled.{FewPauses}
 use Rattle.rounds.specs.RoundsState.{BenchState}
 
--- One side read on from `here` and is at `home`; it sent `sent`, of which `first` were out as it began, and its desk was brought blocks of
+-- One side read on from `here` and is at `home`; it sent `sent`, of which `first` were out as it began, and its arrivals was brought blocks of
 -- lists, none of which was there before. The other one has `list` left and gave `given` of what it got. Of what it didn't get `left` stay, and
 -- `out` come back.
 pub all_counted : {sent waiting taken taken' rest' none rested' taken'' : ℕ} (home here first list given got left out rest : ℕ)
@@ -63,11 +63,11 @@ room_back b i room kept home old e r l = omega arith
 
 -- ---- the side that reads
 
--- what came to a desk is counted too, by weights of 1
-pub counted_to : {W : Type 0} {G : Ghosts W} (d e : Desk W G) (m n : ℕ) → m + weights_to d (λ _. 1) ≡ n + weights_to e (λ _. 1) → m + brought_to d ≡ n + brought_to e
+-- what came to a arrivals is counted too, by weights of 1
+pub counted_to : {W : Type 0} {G : Ghosts W} (d e : Arrivals W G) (m n : ℕ) → m + weights_to d (λ _. 1) ≡ n + weights_to e (λ _. 1) → m + brought_to d ≡ n + brought_to e
 counted_to d e m n is = omega (arith, is, listed_ones d.taker.pass d.taker.left, listed_ones e.taker.pass e.taker.left)
 
--- a round more was read and sent: what is home, what was sent and what the desk was brought, against the same at first
+-- a round more was read and sent: what is home, what was sent and what the arrivals was brought, against the same at first
 pub read_more : {sent' bd br bl : ℕ} (home sent brought here first now mid rest n bb : ℕ) → home + sent + brought ≡ here + first + now → bd ≡ now → mid + bd ≡ home + bb → rest + n + bb ≡ mid + br
     → bl ≡ br → sent' ≡ sent + (n + 0) → rest + sent' + brought ≡ here + first + bl
 read_more home sent brought here first now mid rest n bb a b c d e f = omega arith

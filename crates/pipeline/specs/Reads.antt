@@ -9,10 +9,10 @@ use Rattle.rounds.specs.declared.round.RoundRead.{RoundRead}
 use Rattle.rounds.specs.Handled.{FewPauses}
 use Rattle.rounds.specs.Reads.{Spot, Reads}
 use Rattle.rounds.specs.RoundsState.{IntakeState}
-use Rattle.crossing.specs.declared.desk.Desk.{Desk}
+use Rattle.crossing.specs.declared.arrivals.Arrivals.{Arrivals}
 use Rattle.pipeline.specs.declared.parcel.Parcel.{Parcel}
 use Rattle.crossing.specs.declared.post.Post.{Ghosts}
-use Rattle.crossing.specs.Desks.{brought_to, weights_to}
+use Rattle.crossing.specs.Arriving.{brought_to, weights_to}
 use Rattle.pipeline.specs.Parcels.{blocks_of, rounds_of, weights_sent}
 
 -- behind the rounds that were sent before, these were read and sent
@@ -39,13 +39,13 @@ pub record MayRead (blocks : ℕ) (intake : IntakeState) (place : Place) (sent :
   pub named : intake.blocks ≡ blocks
   pub first : IsFirst place.number sent
 
--- it read on so far: what it sent was home, or came to the desk meanwhile
+-- it read on so far: what it sent was home, or came to the arrivals meanwhile
 pub record HasRead {W : Type 0} {G : Ghosts W} (old new : IntakeState) (from to : Spot)
-    (before after : List Parcel) (desk desk' : Desk W G) : Type 0 where
+    (before after : List Parcel) (arrivals arrivals' : Arrivals W G) : Type 0 where
   pub read : ReadOn old.blocks old.budget from to before after
-  pub sum : new.home + blocks_of after + brought_to desk ≡ old.home + blocks_of before + brought_to desk'
-  pub named : (h : ℕ → ℕ) → weighed h new.stock + weights_sent h after + weights_to desk h
-      ≡ weighed h old.stock + weights_sent h before + weights_to desk' h
-  pub paused : FewPauses desk.taker.pass.empties old.pauses desk'.taker.pass.empties new.pauses
+  pub sum : new.home + blocks_of after + brought_to arrivals ≡ old.home + blocks_of before + brought_to arrivals'
+  pub named : (h : ℕ → ℕ) → weighed h new.stock + weights_sent h after + weights_to arrivals h
+      ≡ weighed h old.stock + weights_sent h before + weights_to arrivals' h
+  pub paused : FewPauses arrivals.taker.pass.empties old.pauses arrivals'.taker.pass.empties new.pauses
   pub same : (new.blocks ≡ old.blocks) × (new.budget ≡ old.budget) × (new.empties ≡ old.empties)
   pub later : from.faults ≤ to.faults

@@ -11,7 +11,7 @@ ghost use Rattle.pipeline.specs.Handled.{MayHandle};
 
 use crate::drive::handle_by;
 use crossbeam_queue::ArrayQueue;
-use errands::{Bells, Errands, Job, Naming, Reply, Runner};
+use errands::{DeskName, Errands, Job, Parkers, Reply, Runner};
 use lane_crew::{
     LANES, LaneCrew, LaneDesk, LaneDone, LaneJob, LaneTask, count_runners, open_desk, serve_lanes,
 };
@@ -28,7 +28,7 @@ use std::thread::{Threads, join_mut};
 fn handle_serving<
     'a,
     J: Job<LaneTask, LaneDone> + Send + Sync,
-    N: Naming + Send + Sync,
+    N: DeskName + Send + Sync,
     R: Threads + Wait + Sync,
     W: Works,
     S: Source + Send,
@@ -42,7 +42,7 @@ fn handle_serving<
     runners: &'a mut [Runner<LaneTask>],
     replies: &'a ArrayQueue<Reply<LaneTask, LaneDone, J, N>>,
     job: &'a J,
-    bells: &'a Bells,
+    parkers: &'a Parkers,
     works: &'a mut W,
     rounds: &'a mut Rounds,
     reader: &'a mut CaptureReader<'_, S>,
@@ -65,7 +65,7 @@ fn handle_serving<
         &mut ||
             requires own { errands.now ≡ N.desk }
             requires runners { All (λ r. r ≡ errands.now) runners.now }
-        { serve_lanes(rt, errands, runners, replies, job, bells) },
+        { serve_lanes(rt, errands, runners, replies, job, parkers) },
         &mut || -> E
             requires gives { W.gives ≡ true }
             requires may { MayHandle (H.ready (options_of rounds.now) rounds.now.keep) rounds.now
@@ -78,7 +78,7 @@ fn handle_serving<
                 into.entry.now into.exit.now result }
         {
             let end = handle_by(rt, alloc, works, rounds, reader, handler, into);
-            bells.close();
+            parkers.close();
             end
         },
     );
@@ -87,7 +87,7 @@ fn handle_serving<
 
 // Handles rounds with all of a desk. Where there is no memory for answers this thread works alone.
 fn handle_crewed<
-    N: Naming + Send + Sync,
+    N: DeskName + Send + Sync,
     R: Threads + Wait + Sync,
     S: Source + Send,
     G: Gate + Sync,
@@ -118,7 +118,7 @@ fn handle_crewed<
         asker,
         own,
         mut runners,
-        bells,
+        parkers,
     } = desk;
     let job = LaneJob { gate, rt };
     let Ok(replies) = ArrayQueue::new(alloc, LANES) else {
@@ -132,7 +132,8 @@ fn handle_crewed<
             into,
         );
     };
-    let Ok(mut crew) = LaneCrew::new(rt, alloc, &errands, &replies, &job, &bells, asker, own) else {
+    let Ok(mut crew) = LaneCrew::new(rt, alloc, &errands, &replies, &job, &parkers, asker, own)
+    else {
         return handle_by(
             rt,
             alloc,
@@ -150,7 +151,7 @@ fn handle_crewed<
         &mut runners,
         &replies,
         &job,
-        &bells,
+        &parkers,
         &mut crew,
         rounds,
         reader,

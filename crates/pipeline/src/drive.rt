@@ -17,7 +17,9 @@ use crate::here::handle_here;
 use crate::parcel::{Fits, Parcel};
 use crate::sides::{Reading, is_full, run_sides};
 use block_pool::Pool;
-use crossing::{Away, Bells, Desk, IN_RING, Naming, Sleeper, Way, new_spent, open_way, send};
+use crossing::{
+    Arrivals, Away, Handshake, IN_RING, PoolName, Sleeper, Way, new_spent, open_way, send,
+};
 use lanes::Works;
 use off_io::Source;
 use pcap_io::CaptureReader;
@@ -31,7 +33,7 @@ use std::thread::Threads;
 
 // The ring that rounds go by, an empty list for the blocks that a round leaves, and others whose memory goes to and
 // fro. Where there is no memory for them, or for what is given back of all blocks, nothing is changed.
-fn prepare<N: Naming>(
+fn prepare<N: PoolName>(
     alloc: Global,
     bench: &mut Bench,
 ) -> Result<
@@ -60,7 +62,7 @@ fn prepare<N: Naming>(
 }
 
 // The first round goes by the ring before there are two sides.
-fn send_first<N: Naming, R: Wait>(
+fn send_first<N: PoolName, R: Wait>(
     rt: &R,
     out: &mut Producer<Parcel, Global, Fits<N>>,
     read: RoundRead,
@@ -81,7 +83,7 @@ fn send_first<N: Naming, R: Wait>(
 }
 
 // The round that waits, which nobody received, where it is the only one.
-fn take_back<N: Naming, T, E, H: RoundHandler<T, E>>(
+fn take_back<N: PoolName, T, E, H: RoundHandler<T, E>>(
     waiting: usize,
     handler: &H,
     from: &mut Consumer<Parcel, Global, Fits<N>>,
@@ -98,7 +100,7 @@ fn take_back<N: Naming, T, E, H: RoundHandler<T, E>>(
 
 // How it ended where a side worked. Where none did the first round comes back; others that were read behind it are
 // lost.
-fn ending<N: Naming, T, E, H: RoundHandler<T, E>>(
+fn ending<N: PoolName, T, E, H: RoundHandler<T, E>>(
     end: Option<E>,
     waiting: usize,
     handler: &H,
@@ -117,7 +119,7 @@ fn ending<N: Naming, T, E, H: RoundHandler<T, E>>(
 // Handles what is left, of which the first round was read and was full, by two sides, between which blocks come home by
 // this way. That round comes back where there is no memory or no thread for two: then nothing else was read or done.
 fn handle_named<
-    N: Naming + Send,
+    N: PoolName + Send,
     R: Threads + Wait + Sync,
     W: Works,
     S: Source + Send,
@@ -159,10 +161,10 @@ fn handle_named<
     send_first(rt, &mut out, read, next);
     let Way { taker, giver, bell } = way;
     let mut giver = Some(giver);
-    let bells = Bells::new(bell);
-    let post = Sleeper::<'_, R, N>::new(rt, &bells);
+    let handshake = Handshake::new(bell);
+    let post = Sleeper::<'_, R, N>::new(rt, &handshake);
     let mut supply = Reading {
-        desk: Desk::new(post, blocks, away, spent, taker),
+        arrivals: Arrivals::new(post, blocks, away, spent, taker),
         out,
     };
     let end = run_sides(
@@ -179,42 +181,15 @@ fn handle_named<
         into,
         &mut supply,
         &mut from,
-        &bells,
+        &handshake,
     );
-    let Reading { desk, mut out } = supply;
+    let Reading { arrivals, mut out } = supply;
     let waiting = from.slots_beside(&mut out);
-    let taker = desk.close();
+    let taker = arrivals.close();
     let ended = ending::<N, T, E, H>(end, waiting, handler, &mut from);
     spares.refuse(bring_home(rt, intake, list, taker, giver));
     drop_parcels(rounds, &mut from);
     ended
-}
-
-// The same, by a call that picks how many blocks there are and which pool this is.
-fn handle_picked<R: Threads + Wait + Sync, W: Works, S: Source + Send, T, E, H: RoundHandler<T, E>>(
-    rt: &R,
-    alloc: Global,
-    works: &mut W,
-    rounds: &mut Rounds,
-    reader: &mut CaptureReader<'_, S>,
-    read: RoundRead,
-    handler: &H,
-    into: &mut T,
-    way: Way,
-) -> Result<E, RoundRead>
-    requires out { IsOut (H.ready (options_of rounds.old) rounds.old.keep) rounds.old read (place_of reader.old)
-        into.old }
-    requires gives { W.gives ≡ true }
-    requires full { read.end ≡ RoundEnd.Full }
-    ensures same_source { SameLoan reader.old reader.new }
-    ensures handled { MayBeHandled (H.did handler.now (options_of rounds.old)) H.stopped
-        (H.ready (options_of rounds.old) rounds.old.keep) rounds.old rounds.new read
-        (reader_at S.left S.faults reader.old rounds.old.taken) (reader_at S.left S.faults reader.new rounds.new.taken)
-        into.old into.new result }
-{
-    handle_named::<Brand, R, W, S, T, E, H>(
-        rt, alloc, works, rounds, reader, read, handler, into, way,
-    )
 }
 
 // Goes on with the first round, which was read and was full, by two sides, or in this thread where there is no memory
@@ -242,7 +217,9 @@ fn handle_on<R: Threads + Wait + Sync, W: Works, S: Source + Send, T, E, H: Roun
     let Ok(way) = open_way(alloc) else {
         return handle_here(works, rounds, reader, read, handler, into);
     };
-    match handle_picked(rt, alloc, works, rounds, reader, read, handler, into, way) {
+    match handle_named::<Brand, R, W, S, T, E, H>(
+        rt, alloc, works, rounds, reader, read, handler, into, way,
+    ) {
         Ok(end) => end,
         Err(back) => handle_here(works, rounds, reader, back, handler, into),
     }

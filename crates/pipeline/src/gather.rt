@@ -12,14 +12,14 @@ ghost use Rattle.pipeline.specs.Parcels.{blocks_of, weights_sent};
 use crate::parcel::{Fits, Parcel};
 use block_pool::{Giver, Pool};
 use block_supply::Taker;
-use crossing::Naming;
+use crossing::PoolName;
 use rounds::{Intake, RoundRead, Rounds, bring_lists};
 use rtrb::Consumer;
 use std::alloc::Global;
 use std::sync::Wait;
 
 /// The rounds that nobody worked.
-pub(crate) fn drop_parcels<N: Naming>(
+pub(crate) fn drop_parcels<N: PoolName>(
     rounds: &mut Rounds,
     from: &mut Consumer<Parcel, Global, Fits<N>>,
 )

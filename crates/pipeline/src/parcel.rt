@@ -2,7 +2,7 @@
 ghost use Rattle.std.specs.Prelude.{◌≡◌};
 
 use block_pool::Pool;
-use crossing::Naming;
+use crossing::PoolName;
 use rounds::RoundRead;
 use rtrb::Protocol;
 use std::marker::PhantomData;
@@ -41,11 +41,11 @@ impl Drop for Parcel {
 }
 
 /// Rounds come in turn, and each fits the blocks.
-pub(crate) struct Fits<N: Naming> {
+pub(crate) struct Fits<N: PoolName> {
     of: PhantomData<N>,
 }
 
-impl<N: Naming> Protocol<Parcel> for Fits<N> {
+impl<N: PoolName> Protocol<Parcel> for Fits<N> {
     ghost use Rattle.pipeline.specs.Parcels.{IsFit};
 
     ghost allows = { λ before x. IsFit N.blocks before x };

@@ -8,7 +8,7 @@ ghost use Rattle.pipeline.specs.Parcels.{Fitting, Returns, IsLeft};
 use crate::parcel::{Fits, Parcel};
 use block_pool::{Giver, Pool};
 use core::mem::replace;
-use crossing::{Bells, Naming, has_come};
+use crossing::{Handshake, PoolName, has_come};
 use rounds::{Bench, give_list};
 use rtrb::Consumer;
 use std::alloc::{AllocError, Global};
@@ -41,7 +41,7 @@ fn give_again<R: Wait>(rt: &R, alloc: Global, giver: &mut Option<Giver>, list: &
 }
 
 // The round that waits, where its blocks have places beside those of a list.
-fn take_fitting<N: Naming>(
+fn take_fitting<N: PoolName>(
     list: &Pool,
     from: &mut Consumer<Parcel, Global, Fits<N>>,
 ) -> Option<Parcel>
@@ -59,13 +59,13 @@ fn take_fitting<N: Naming>(
 
 /// The next round. What found no place in the pool of lists is given again before this thread sleeps. `None` where the
 /// round's blocks have no places beside what is left.
-pub(crate) fn next_round<N: Naming, R: Wait>(
+pub(crate) fn next_round<N: PoolName, R: Wait>(
     rt: &R,
     alloc: Global,
     giver: &mut Option<Giver>,
     list: &mut Pool,
     from: &mut Consumer<Parcel, Global, Fits<N>>,
-    bells: &Bells,
+    handshake: &Handshake,
 ) -> Option<Parcel>
     requires lent { IsLent giver.old }
     ensures ring { SameConsumer from.old from.new }
@@ -78,7 +78,7 @@ pub(crate) fn next_round<N: Naming, R: Wait>(
             return take_fitting(list, from);
         }
         give_again(rt, alloc, giver, list);
-        bells.worker.sleep(rt);
+        handshake.worker.sleep(rt);
     }
     unreachable!()
 }

@@ -11,7 +11,7 @@ ghost use Rattle.pipeline.specs.Reads.{HasRead, MayRead};
 use crate::parcel::{Fits, Parcel};
 use crate::returning::{give_back, make_ready, next_round};
 use block_pool::{Giver, Pool};
-use crossing::{Bells, Desk, Naming, Post, send};
+use crossing::{Arrivals, Handshake, PoolName, Post, send};
 use lanes::Works;
 use off_io::Source;
 use pcap_io::CaptureReader;
@@ -23,8 +23,8 @@ use std::thread::{Threads, join_mut};
 
 /// What the side that reads works with, beside its intake.
 #[derive(Drop)]
-pub(crate) struct Reading<W: Post + Drop, N: Naming> {
-    pub(crate) desk: Desk<W>,
+pub(crate) struct Reading<W: Post + Drop, N: PoolName> {
+    pub(crate) arrivals: Arrivals<W>,
     pub(crate) out: Producer<Parcel, Global, Fits<N>>,
 }
 
@@ -40,7 +40,7 @@ pub(crate) fn is_full(end: RoundEnd) -> bool
 
 // Sends each round that it reads behind the first one, which was sent, up to one that isn't full, or until the other
 // side has ended.
-fn read_side<N: Naming, R: Wait, P: Post + Drop, S: Source>(
+fn read_side<N: PoolName, R: Wait, P: Post + Drop, S: Source>(
     rt: &R,
     reader: &mut CaptureReader<'_, S>,
     intake: &mut Intake,
@@ -51,28 +51,30 @@ fn read_side<N: Naming, R: Wait, P: Post + Drop, S: Source>(
     ensures same_source { SameLoan reader.old reader.new }
     ensures read { HasRead intake.old intake.new (reader_at S.left S.faults reader.old intake.old.taken)
         (reader_at S.left S.faults reader.new intake.new.taken) (sent supply.old.out) (sent supply.new.out)
-        supply.old.desk supply.new.desk }
+        supply.old.arrivals supply.new.arrivals }
 {
-    if !supply.desk.begin() {
+    if !supply.arrivals.begin() {
         return;
     }
     let mut number = 1;
     for _ in rt.forever() {
-        supply.desk.await_place(&mut supply.out);
-        intake.bring_more(&mut supply.desk);
-        if supply.desk.has_stopped() {
+        supply.arrivals.await_place(&mut supply.out);
+        intake.bring_more(&mut supply.arrivals);
+        if supply.arrivals.has_stopped() {
             return;
         }
-        let read = intake.read_beside(rt, reader, &mut supply.desk);
+        let read = intake.read_beside(rt, reader, &mut supply.arrivals);
         let end = read.end;
-        supply.desk.lend(read.round.blocks(), read.round.spares());
+        supply
+            .arrivals
+            .lend(read.round.blocks(), read.round.spares());
         let parcel = Parcel {
             number,
             read,
-            spent: supply.desk.pick(),
+            spent: supply.arrivals.pick(),
         };
         send(rt, &mut supply.out, parcel);
-        supply.desk.wake();
+        supply.arrivals.wake();
         if !is_full(end) {
             return;
         }
@@ -91,7 +93,7 @@ fn gone(before: u32, blocks: u32, list: &Pool) -> u64
 // Handles each round that comes, until one ends it. Its spares are given while it is worked, and counted where another
 // may follow; all else is given once it was written, as one list. What finds no place stays, and what the last one
 // leaves.
-fn work_rounds<N: Naming, R: Wait, W: Works, T, E, H: RoundHandler<T, E>>(
+fn work_rounds<N: PoolName, R: Wait, W: Works, T, E, H: RoundHandler<T, E>>(
     rt: &R,
     alloc: Global,
     works: &mut W,
@@ -102,7 +104,7 @@ fn work_rounds<N: Naming, R: Wait, W: Works, T, E, H: RoundHandler<T, E>>(
     handler: &H,
     into: &mut T,
     from: &mut Consumer<Parcel, Global, Fits<N>>,
-    bells: &Bells,
+    handshake: &Handshake,
 ) -> E
     requires gives { W.gives ≡ true }
     requires works { MayWork (H.ready (options_at bench.old) bench.old.keep) N.blocks bench.old list.old giver.old
@@ -113,10 +115,10 @@ fn work_rounds<N: Naming, R: Wait, W: Works, T, E, H: RoundHandler<T, E>>(
         spares.new into.old into.new (received from.new) (Some result) }
 {
     for _ in rt.forever() {
-        let Some(parcel) = next_round(rt, alloc, giver, list, from, bells) else {
+        let Some(parcel) = next_round(rt, alloc, giver, list, from, handshake) else {
             return handler.stop();
         };
-        bells.reader.wake();
+        handshake.reader.wake();
         let (number, read, spent) = parcel.open();
         let before = list.home();
         let blocks = read.round.blocks();
@@ -136,7 +138,7 @@ fn work_rounds<N: Naming, R: Wait, W: Works, T, E, H: RoundHandler<T, E>>(
 }
 
 // The same, where a reader has begun, which is told then that no more rounds are wanted. `None` where none has.
-fn work_side<N: Naming, R: Wait, W: Works, T, E, H: RoundHandler<T, E>>(
+fn work_side<N: PoolName, R: Wait, W: Works, T, E, H: RoundHandler<T, E>>(
     rt: &R,
     alloc: Global,
     works: &mut W,
@@ -147,7 +149,7 @@ fn work_side<N: Naming, R: Wait, W: Works, T, E, H: RoundHandler<T, E>>(
     handler: &H,
     into: &mut T,
     from: &mut Consumer<Parcel, Global, Fits<N>>,
-    bells: &Bells,
+    handshake: &Handshake,
 ) -> Option<E>
     requires gives { W.gives ≡ true }
     requires works { MayWork (H.ready (options_at bench.old) bench.old.keep) N.blocks bench.old list.old giver.old
@@ -157,20 +159,20 @@ fn work_side<N: Naming, R: Wait, W: Works, T, E, H: RoundHandler<T, E>>(
         (H.ready (options_at bench.old) bench.old.keep) bench.old bench.new list.new giver.old giver.new spares.old
         spares.new into.old into.new (received from.new) result }
 {
-    if !bells.has_begun() {
+    if !handshake.has_begun() {
         return None;
     }
     let end = work_rounds(
-        rt, alloc, works, bench, list, giver, spares, handler, into, from, bells,
+        rt, alloc, works, bench, list, giver, spares, handler, into, from, handshake,
     );
-    bells.end();
+    handshake.end();
     Some(end)
 }
 
 /// Both sides at once, the one that reads in a thread of its own.
 pub(crate) fn run_sides<
     'a,
-    N: Naming + Send,
+    N: PoolName + Send,
     R: Threads + Wait + Sync,
     P: Post + Send + Drop,
     W: Works,
@@ -192,7 +194,7 @@ pub(crate) fn run_sides<
     into: &'a mut T,
     supply: &'a mut Reading<P, N>,
     from: &'a mut Consumer<Parcel, Global, Fits<N>>,
-    bells: &'a Bells,
+    handshake: &'a Handshake,
 ) -> Option<E>
     requires reads { MayRead N.blocks intake.old (place_of reader.old) (sent supply.old.out) }
     requires gives { W.gives ≡ true }
@@ -202,7 +204,7 @@ pub(crate) fn run_sides<
     ensures same_source { SameLoan reader.old reader.new }
     ensures read { HasRead intake.old intake.new (reader_at S.left S.faults reader.old intake.old.taken)
         (reader_at S.left S.faults reader.new intake.new.taken) (sent supply.old.out) (sent supply.new.out)
-        supply.old.desk supply.new.desk }
+        supply.old.arrivals supply.new.arrivals }
     ensures worked { HasWorked (H.did handler.now (options_at bench.old)) H.stopped
         (H.ready (options_at bench.old) bench.old.keep) bench.old bench.new list.new giver.old giver.new spares.old
         spares.new into.old into.new (received from.new) result }
@@ -216,7 +218,8 @@ pub(crate) fn run_sides<
             ensures read { HasRead intake.entry.now intake.exit.now
                 (reader_at S.left S.faults reader.entry.now intake.entry.now.taken)
                 (reader_at S.left S.faults reader.exit.now intake.exit.now.taken)
-                (sent supply.entry.now.out) (sent supply.exit.now.out) supply.entry.now.desk supply.exit.now.desk }
+                (sent supply.entry.now.out) (sent supply.exit.now.out) supply.entry.now.arrivals
+                supply.exit.now.arrivals }
         { read_side(rt, reader, intake, supply) },
         &mut || -> Option<E>
             requires gives { W.gives ≡ true }
@@ -229,7 +232,7 @@ pub(crate) fn run_sides<
                 into.exit.now (received from.exit.now) result }
         {
             work_side(
-                rt, alloc, works, bench, list, giver, spares, handler, into, from, bells,
+                rt, alloc, works, bench, list, giver, spares, handler, into, from, handshake,
             )
         },
     );

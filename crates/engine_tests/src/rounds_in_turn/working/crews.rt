@@ -6,7 +6,7 @@ use super::packets::all_home;
 use super::turns::{are_two_and_two, lanes_of};
 use crate::plans::{chosen, plain};
 use crossbeam_queue::ArrayQueue;
-use errands::{Asker, Bells, Errands, Job, Naming, Reply, Runner};
+use errands::{Asker, DeskName, Errands, Job, Parkers, Reply, Runner};
 use lane_crew::{LANES, LaneCrew, LaneDesk, LaneDone, LaneJob, LaneTask, open_desk, serve_lanes};
 use lanes::{LanePlan, Works};
 use off_io::{Gate, Meeting, NoGate, Who};
@@ -41,7 +41,7 @@ fn rounds_by<R: Abort, W: Works>(
 fn beside<
     'a,
     J: Job<LaneTask, LaneDone> + Send + Sync,
-    N: Naming + Send + Sync,
+    N: DeskName + Send + Sync,
     R: Threads + Wait + Abort + Sync,
     W: Works,
 >(
@@ -51,7 +51,7 @@ fn beside<
     errands: &'a Errands<LaneTask>,
     replies: &'a ArrayQueue<Reply<LaneTask, LaneDone, J, N>>,
     job: &'a J,
-    bells: &'a Bells,
+    parkers: &'a Parkers,
     runners: &'a mut [Runner<LaneTask>],
     works: &'a mut W,
     rounds: u32,
@@ -65,19 +65,19 @@ fn beside<
         &mut ||
             requires own { errands.now ≡ N.desk }
             requires runners { All (λ r. r ≡ errands.now) runners.now }
-        { serve_lanes(rt, errands, runners, replies, job, bells) },
+        { serve_lanes(rt, errands, runners, replies, job, parkers) },
         &mut || -> usize
             requires plan { IsPlan plan.now }
         {
             let blocks = rounds_by(rt, alloc, plan, works, rounds);
-            bells.close();
+            parkers.close();
             blocks
         },
     );
     blocks
 }
 
-fn by_crew_named<N: Naming + Send + Sync, R: Threads + Wait + Abort + Sync, G: Gate + Sync>(
+fn by_crew_named<N: DeskName + Send + Sync, R: Threads + Wait + Abort + Sync, G: Gate + Sync>(
     rt: &R,
     alloc: Global,
     plan: &LanePlan,
@@ -85,7 +85,7 @@ fn by_crew_named<N: Naming + Send + Sync, R: Threads + Wait + Abort + Sync, G: G
     errands: &Errands<LaneTask>,
     asker: Asker<LaneTask>,
     own: Runner<LaneTask>,
-    bells: &Bells,
+    parkers: &Parkers,
     runners: &mut [Runner<LaneTask>],
     rounds: u32,
 ) -> usize
@@ -96,10 +96,10 @@ fn by_crew_named<N: Naming + Send + Sync, R: Threads + Wait + Abort + Sync, G: G
 {
     let job = LaneJob { gate, rt };
     let replies = ArrayQueue::new(alloc, LANES).expect(rt, "no memory");
-    let crew = LaneCrew::new(rt, alloc, errands, &replies, &job, bells, asker, own);
+    let crew = LaneCrew::new(rt, alloc, errands, &replies, &job, parkers, asker, own);
     let mut crew = crew.expect(rt, "no memory");
     beside::<LaneJob<'_, G, R>, N, R, LaneCrew<'_, '_, G, N, R>>(
-        rt, alloc, plan, errands, &replies, &job, bells, runners, &mut crew, rounds,
+        rt, alloc, plan, errands, &replies, &job, parkers, runners, &mut crew, rounds,
     )
 }
 
@@ -119,7 +119,7 @@ fn by_crew<R: Threads + Wait + Abort + Sync, G: Gate + Sync>(
         asker,
         own,
         mut runners,
-        bells,
+        parkers,
     } = open_desk(alloc, beside_it).expect(rt, "no memory");
     by_crew_named::<Brand, R, G>(
         rt,
@@ -129,7 +129,7 @@ fn by_crew<R: Threads + Wait + Abort + Sync, G: Gate + Sync>(
         &errands,
         asker,
         own,
-        &bells,
+        &parkers,
         &mut runners,
         rounds,
     )

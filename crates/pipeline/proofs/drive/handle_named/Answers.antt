@@ -34,7 +34,7 @@ counted g c =
     let a = c.slots_beside-waiting.ensures in
     all_counted c.run_sides-end.new.intake.home c.rounds.inside.intake.home (blocks_of (sent c.send_first.new.out)) (home c.run_sides-end.new.list) (given_by c.run_sides-end.new.giver)
     (blocks_of (received c.run_sides-end.new.from)) (blocks_of (known_items c.ending-ended.new.from)) (blocks_out c.ending-ended.result) (home c.new.result.taker.left)
-    c.run_sides-end.ensures.read.sum c.run_sides-end.ensures.worked.each c.run_sides-end.new.supply.desk.taker.counted
+    c.run_sides-end.ensures.read.sum c.run_sides-end.ensures.worked.each c.run_sides-end.new.supply.arrivals.taker.counted
     (ap (λ t. blocks_in t.pass.taken) c.new.ensures.same ∙ ap blocks_in c.args.way.untaken.0) (ap blocks_in c.args.way.ungiven.1)
     (sum_of_both blocks_of blocks_append (received c.run_sides-end.new.from) (received c.slots_beside-waiting.new.self) (known_items c.slots_beside-waiting.new.self) _ _ a.looked.1 a.fifo a.producer.1)
     (left_out g.H.RoundHandler.stopped c.run_sides-end.result c.ending-ended.result (known_items c.slots_beside-waiting.new.self) (known_items c.ending-ended.new.from) c.ending-ended.ensures.some
@@ -81,7 +81,7 @@ bring_home-requires g c =
     let r = c.run_sides-end.ensures.read in
     let k = c.run_sides-end.ensures.worked in
     let w = c.args.way in
-    let d = c.run_sides-end.new.supply.desk in
+    let d = c.run_sides-end.new.supply.arrivals in
     record {
       giver = subst (λ (l : SharedState). HasGiver l c.run_sides-end.new.giver)
           (c.requires.way ∙ sym d.pooled ∙ sym (ap (λ t. arc_value t.lists) c.close-taker.ensures.same))
@@ -138,7 +138,7 @@ returns-clause-handled g c =
     λ h.
     all_weighed (weighed h c.run_sides-end.new.intake.stock) (weighed h c.run_sides-end.new.list.blocks) (weights_given c.run_sides-end.new.giver h)
     (weights_sent h (received c.run_sides-end.new.from)) (weights_sent h left) (weights_out c.ending-ended.result h) (weighed h c.new.result.taker.left.blocks) (weighed h c.bring_home.new.intake.stock)
-    (r.named h) (k.each_named h) (c.run_sides-end.new.supply.desk.taker.weighs h)
+    (r.named h) (k.each_named h) (c.run_sides-end.new.supply.arrivals.taker.weighs h)
     (ap (λ t. weights_listed h t.pass.taken) c.new.ensures.same ∙ ap (weights_listed h) w.untaken.0) (ap (weights_listed h) w.ungiven.1)
     (sum_of_both (weights_sent h) (weights_sent_append h) (received c.run_sides-end.new.from) (received c.slots_beside-waiting.new.self) known _ _ a.looked.1 a.fifo a.producer.1)
     (left_weights h g.H.RoundHandler.stopped c.run_sides-end.result c.ending-ended.result known left e.some e.none) (ap (λ t. weighed h t.left.blocks) c.close-taker.ensures.same)

@@ -5,8 +5,8 @@ use Rattle.block_supply.specs.Lists.{listed_home, weights_home}
 use Rattle.pipeline.specs.Parcels.{blocks_of, packets_of, rounds_of, weights_sent, IsFit}
 use Rattle.pipeline.specs.Reads.{HasRead}
 use Rattle.block_pool.specs.PoolState.{weighed}
-use Rattle.crossing.specs.Desks.{brought_to, weights_to}
-use Rattle.crossing.specs.declared.desk.Desk.{Desk}
+use Rattle.crossing.specs.Arriving.{brought_to, weights_to}
+use Rattle.crossing.specs.declared.arrivals.Arrivals.{Arrivals}
 use Rattle.crossing.specs.declared.post.Post.{Ghosts}
 use Rattle.rounds.specs.RoundsState.{IntakeState}
 use Rattle.rounds.specs.Weights.{weights_of}
@@ -21,8 +21,8 @@ use Rattle.pipeline.proofs.sides.read_side.Goals as goal
 use Rattle.pipeline.proofs.sides.read_side.Goals.{After-is_full}
 
 -- before the first turn
-read_nothing : {W : Type 0} {G : Ghosts W} (intake : IntakeState) (at : Spot) (xs : List Parcel) (desk : Desk W G) → HasRead intake intake at at xs xs desk desk
-read_nothing intake at xs desk = record {
+read_nothing : {W : Type 0} {G : Ghosts W} (intake : IntakeState) (at : Spot) (xs : List Parcel) (arrivals : Arrivals W G) → HasRead intake intake at at xs xs arrivals arrivals
+read_nothing intake at xs arrivals = record {
   read = record { more = []; sent = sym (append-nil (rounds_of xs)); reads = refl };
   sum = refl;
   named = λ h. refl;
@@ -45,7 +45,7 @@ ring_now g c = producer_then c.args.supply.now.out c.await_place.new.ring c.send
 all_read : (g : given.Over) (c : After-is_full g) → HasRead c.args.intake.now c.read_beside-read.new.self
     (reader_at g.S.Source.left g.S.Source.faults c.args.reader.now c.args.intake.now.taken)
     (reader_at g.S.Source.left g.S.Source.faults c.read_beside-read.new.reader c.read_beside-read.new.self.taken)
-    (sent c.args.supply.now.out) (sent c.send.new.ring) c.args.supply.now.desk c.pick.new.self
+    (sent c.args.supply.now.out) (sent c.send.new.ring) c.args.supply.now.arrivals c.pick.new.self
 all_read g c =
     let l = c.loop in
     let i = l.invariant in
@@ -75,13 +75,13 @@ all_read g c =
               failed = r.failed;
             }));
       };
-      sum = read_more l.intake.home (blocks_of (sent l.supply.out)) (brought_to c.args.supply.now.desk) c.args.intake.now.home (blocks_of (sent c.args.supply.now.out)) (brought_to l.supply.desk)
+      sum = read_more l.intake.home (blocks_of (sent l.supply.out)) (brought_to c.args.supply.now.arrivals) c.args.intake.now.home (blocks_of (sent c.args.supply.now.out)) (brought_to l.supply.arrivals)
           c.bring_more.new.self.home c.read_beside-read.new.self.home c.read_beside-read.result.round.blocks (brought_to c.bring_more.new.more) e.sum (ap (λ t. listed_home t.pass t.left) w)
           (counted_to c.await_place.new.self c.bring_more.new.more _ _ b.sum) (counted_to c.bring_more.new.more c.read_beside-read.new.more _ _ r.sum)
           (ap (λ t. listed_home t.pass t.left) d) (ap blocks_of s ∙ blocks_last (sent l.supply.out) (parcel g c));
       named = λ h.
-          read_more (weighed h l.intake.stock) (weights_sent h (sent l.supply.out)) (weights_to c.args.supply.now.desk h) (weighed h c.args.intake.now.stock) (weights_sent h (sent c.args.supply.now.out))
-          (weights_to l.supply.desk h) (weighed h c.bring_more.new.self.stock) (weighed h c.read_beside-read.new.self.stock) (weights_of c.read_beside-read.result.round h) (weights_to c.bring_more.new.more h) (e.named h)
+          read_more (weighed h l.intake.stock) (weights_sent h (sent l.supply.out)) (weights_to c.args.supply.now.arrivals h) (weighed h c.args.intake.now.stock) (weights_sent h (sent c.args.supply.now.out))
+          (weights_to l.supply.arrivals h) (weighed h c.bring_more.new.self.stock) (weighed h c.read_beside-read.new.self.stock) (weights_of c.read_beside-read.result.round h) (weights_to c.bring_more.new.more h) (e.named h)
           (ap (λ t. weights_home h t.pass t.left) w) (b.named h) (r.named h) (ap (λ t. weights_home h t.pass t.left) d)
           (ap (weights_sent h) s ∙ weights_sent_append h (sent l.supply.out) (parcel g c ∷ []));
       paused = few_later _ _ _ _ _ _
@@ -105,14 +105,14 @@ returns-then-has_stopped-clause-read g c =
         reads = subst (λ (t : ℕ). Reads c.args.intake.now.blocks c.args.intake.now.budget
             (reader_at g.S.Source.left g.S.Source.faults c.args.reader.now c.args.intake.now.taken) e.read.more (reader_at g.S.Source.left g.S.Source.faults l.reader t)) (sym b.same.1) e.read.reads;
       };
-      sum = ap (λ (n : ℕ). c.bring_more.new.self.home + n + brought_to c.args.supply.now.desk) (ap blocks_of s)
-          ∙ read_stopped l.intake.home (blocks_of (sent l.supply.out)) (brought_to c.args.supply.now.desk) c.args.intake.now.home (blocks_of (sent c.args.supply.now.out)) (brought_to l.supply.desk)
+      sum = ap (λ (n : ℕ). c.bring_more.new.self.home + n + brought_to c.args.supply.now.arrivals) (ap blocks_of s)
+          ∙ read_stopped l.intake.home (blocks_of (sent l.supply.out)) (brought_to c.args.supply.now.arrivals) c.args.intake.now.home (blocks_of (sent c.args.supply.now.out)) (brought_to l.supply.arrivals)
           c.bring_more.new.self.home (brought_to c.bring_more.new.more) e.sum (ap (λ t. listed_home t.pass t.left) w)
           (counted_to c.await_place.new.self c.bring_more.new.more _ _ b.sum);
       named = λ h.
-          ap (λ (n : ℕ). weighed h c.bring_more.new.self.stock + n + weights_to c.args.supply.now.desk h) (ap (weights_sent h) s)
-          ∙ read_stopped (weighed h l.intake.stock) (weights_sent h (sent l.supply.out)) (weights_to c.args.supply.now.desk h) (weighed h c.args.intake.now.stock)
-          (weights_sent h (sent c.args.supply.now.out)) (weights_to l.supply.desk h) (weighed h c.bring_more.new.self.stock) (weights_to c.bring_more.new.more h) (e.named h) (ap (λ t. weights_home h t.pass t.left) w) (b.named h);
+          ap (λ (n : ℕ). weighed h c.bring_more.new.self.stock + n + weights_to c.args.supply.now.arrivals h) (ap (weights_sent h) s)
+          ∙ read_stopped (weighed h l.intake.stock) (weights_sent h (sent l.supply.out)) (weights_to c.args.supply.now.arrivals h) (weighed h c.args.intake.now.stock)
+          (weights_sent h (sent c.args.supply.now.out)) (weights_to l.supply.arrivals h) (weighed h c.bring_more.new.self.stock) (weights_to c.bring_more.new.more h) (e.named h) (ap (λ t. weights_home h t.pass t.left) w) (b.named h);
       paused = few_later _ _ _ _ _ _ e.paused (most_same _ _ _ (sym (ap (λ t. t.pass.empties) w)) b.asked) b.same.4;
       same = (b.same.0 ∙ e.same.0, b.same.2 ∙ e.same.1, b.same.3 ∙ e.same.2);
       later = e.later;
@@ -127,7 +127,7 @@ send-requires g c =
     let i = l.invariant in
     let r = c.read_beside-read.ensures in
     record {
-      allowed = subst (λ (xs : List Parcel). IsFit g.N.Naming.blocks xs (record { number = l.number; read = c.read_beside-read.result; spent = c.pick.result })) (sym c.await_place.ensures.sent)
+      allowed = subst (λ (xs : List Parcel). IsFit g.N.PoolName.blocks xs (record { number = l.number; read = c.read_beside-read.result; spent = c.pick.result })) (sym c.await_place.ensures.sent)
           (record {
             number = i.number;
             packets = least_then _ _ _ i.packets i.ready.counted.few;
@@ -145,7 +145,7 @@ loop-init g c =
       same = refl;
       ready = a.ready;
       link = a.link;
-      read = read_nothing c.args.intake.now (reader_at g.S.Source.left g.S.Source.faults c.args.reader.now c.args.intake.now.taken) (sent c.args.supply.now.out) c.args.supply.now.desk;
+      read = read_nothing c.args.intake.now (reader_at g.S.Source.left g.S.Source.faults c.args.reader.now c.args.intake.now.taken) (sent c.args.supply.now.out) c.args.supply.now.arrivals;
       go = tt;
       number = omega (arith, ap (λ (xs : List Parcel). length (rounds_of xs)) a.first.1);
       packets = omega (arith, ap (λ (xs : List Parcel). packets_of (rounds_of xs)) a.first.1, a.first.3);
@@ -179,7 +179,7 @@ loop-preserved g c =
 
 pub returns-then-not-begin-clause-read : goal.returns-then-not-begin-clause-read
 returns-then-not-begin-clause-read g c =
-    read_nothing c.args.intake.now (reader_at g.S.Source.left g.S.Source.faults c.args.reader.now c.args.intake.now.taken) (sent c.args.supply.now.out) c.args.supply.now.desk
+    read_nothing c.args.intake.now (reader_at g.S.Source.left g.S.Source.faults c.args.reader.now c.args.intake.now.taken) (sent c.args.supply.now.out) c.args.supply.now.arrivals
 
 pub returns-then-has_stopped-clause-same_source : goal.returns-then-has_stopped-clause-same_source
 returns-then-has_stopped-clause-same_source g c = c.loop.invariant.same

@@ -15,7 +15,7 @@ invariant-loop g l = record {
   ready : IsReady l.reader.place;
   link : l.reader.place.link ≡ Ethernet;
   read : HasRead l.initial.intake l.intake (reader_at g.S.Source.left g.S.Source.faults l.initial.reader l.initial.intake.taken) (reader_at g.S.Source.left g.S.Source.faults l.reader l.intake.taken)
-      (sent l.initial.supply.out) (sent l.supply.out) l.initial.supply.desk l.supply.desk;
+      (sent l.initial.supply.out) (sent l.supply.out) l.initial.supply.arrivals l.supply.arrivals;
   go : AllGo read.read.more;
   number : l.number ≡ length (rounds_of (sent l.supply.out));
   packets : packets_of (rounds_of (sent l.supply.out)) ≤ l.reader.place.number;

@@ -25,7 +25,7 @@ returns-clause-read g c =
     let read = c.join_mut-end.ensures.0.met in
     let a = c.args in
     let from = reader_at g.S.Source.left g.S.Source.faults a.reader.now a.intake.now.taken in
-    as_three (λ intake reader supply. HasRead a.intake.now intake from (reader_at g.S.Source.left g.S.Source.faults reader intake.taken) (sent a.supply.now.out) (sent supply.out) a.supply.now.desk supply.desk)
+    as_three (λ intake reader supply. HasRead a.intake.now intake from (reader_at g.S.Source.left g.S.Source.faults reader intake.taken) (sent a.supply.now.out) (sent supply.out) a.supply.now.arrivals supply.arrivals)
     (c.intake-1.given.1 (sym read.0.2)) (c.reader-1.given.1 (sym read.0.1)) (c.supply-1.given.1 (sym read.0.3)) read.1.1.1
 
 pub returns-clause-worked : goal.returns-clause-worked

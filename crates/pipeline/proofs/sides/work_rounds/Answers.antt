@@ -140,7 +140,7 @@ pub handle-requires-clause-may : goal.handle-requires-clause-may
 handle-requires-clause-may g c =
     let i = c.loop.invariant in
     let item = c.in-Some-next_round.ensures.item in
-    may_bring c.in-Some-next_round.parcel.read.round.blocks g.N.Naming.blocks c.loop.bench c.next_round.new.list (ap (λ (r : RoundRead). r.round.blocks) c.open-number.ensures.same.1) item.fits.blocks
+    may_bring c.in-Some-next_round.parcel.read.round.blocks g.N.PoolName.blocks c.loop.bench c.next_round.new.list (ap (λ (r : RoundRead). r.round.blocks) c.open-number.ensures.same.1) item.fits.blocks
     (ap (λ (b : BenchState). b.blocks) i.bench ∙ c.requires.works.named) item.room i.room
 
 pub handle-requires-clause-read : goal.handle-requires-clause-read

@@ -1,6 +1,0 @@
-use Rattle.std.proofs.Common.{◌≡◌}
-use Rattle.rtrb.specs.Ring.{sent, SameProducer}
-use Rattle.crossing.proofs.desk.Desk.await_place.Given as goal
-
-abbrev pub invariant-loop : goal.invariant-loop
-invariant-loop g l = SameProducer l.initial.ring l.ring × (sent l.ring ≡ sent l.initial.ring) × (l.self.taker ≡ l.initial.self.taker)

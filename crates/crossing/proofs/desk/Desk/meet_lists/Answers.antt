@@ -1,8 +1,0 @@
-use Rattle.crossing.proofs.Meeting.{meets_then}
-use Rattle.crossing.proofs.desk.Desk.meet_lists.Goals as goal
-
-pub loop-preserved : goal.loop-preserved
-loop-preserved g c = meets_then c.loop.invariant c.meet_list.ensures.meets
-
-pub returns-then-not-meet_list : goal.returns-then-not-meet_list
-returns-then-not-meet_list g c = record { meets = meets_then c.loop.invariant c.meet_list.ensures.meets }

@@ -1,5 +1,0 @@
-use Rattle.crossing.specs.Desks.{Meets}
-use Rattle.crossing.proofs.desk.Desk.meet_lists.Given as goal
-
-abbrev pub invariant-loop : goal.invariant-loop
-invariant-loop g l = Meets l.initial.pool l.pool l.initial.self l.self
