@@ -10,18 +10,18 @@
 //! Nothing here knows what a round is: what goes to the side that works is whatever a ring takes ([`send`],
 //! [`has_come`]). What comes back are blocks, by lists alone: a pool of lists that [`open_way`] makes, each list by one
 //! step. They come in at the [`Arrivals`] of the side that reads, which are its supply of blocks (`Supply`). Each side
-//! sleeps by a bell of its own, and a side that reads waits at its [`Post`], for blocks or for a place in the ring. That
-//! both sides are there, and that the one that works has ended, are two flags beside the bells ([`Handshake`]).
+//! sleeps by a bell of its own, and a side that reads waits at its [`Post`], for blocks or for a place in the ring.
+//! That both sides are there, and that the one that works has ended, are two flags beside the bells ([`Handshake`]).
 //!
 //! [`ROUNDS`] rounds are on their way at once, by the places of the ring: before one is read it has a place
 //! ([`Arrivals::await_place`]). Of a list whose blocks are home the memory goes away with a round, for the blocks that
 //! this one leaves (`Taker::take_spent`, [`Arrivals::pick`]). Before a round is read, what has come is taken.
 //!
 //! Proved: what was sent by a ring, item by item (`sent` of [`send`]); no block is lost as lists arrive, also by the
-//! names of blocks (`meets` of the calls of [`Arrivals`], `Meets` of `specs/Arriving.antt`): what is home and what hasn't
-//! come home of lists is what it was. As a supply they say yes only where as many blocks are home as are needed, and no
-//! only behind a take that found no list (`enough` and `refused` of `bring`, `looked` of `look`). They say that the
-//! other side has ended only where they have that from the flag which this side sets, as an [`Ended`] (`stopped` of
+//! names of blocks (`meets` of the calls of [`Arrivals`], `Meets` of `specs/Arriving.antt`): what is home and what
+//! hasn't come home of lists is what it was. As a supply they say yes only where as many blocks are home as are needed,
+//! and no only behind a take that found no list (`enough` and `refused` of `bring`, `looked` of `look`). They say that
+//! the other side has ended only where they have that from the flag which this side sets, as an [`Ended`] (`stopped` of
 //! [`Arrivals::has_stopped`]). Not proved: that a thread that waits is woken.
 //!
 //! ```

@@ -21,8 +21,8 @@
 //!
 //! Proved: `task`, `first` of `Errands::redeem`: a note's task is the one of its number, and no note of that number
 //! came before. `did` of `do_all` and of `DoesTasks::do_tasks`: each answer is one of its task, in the order of the
-//! tasks, whoever did it and in whatever order. Only tested: that several run at once. Not said: that a thread runs or is
-//! woken; who asks runs tasks itself while it waits, so a run ends without any runner.
+//! tasks, whoever did it and in whatever order. Only tested: that several run at once. Not said: that a thread runs or
+//! is woken; who asks runs tasks itself while it waits, so a run ends without any runner.
 //!
 //! ```
 //! let (desk, mut asker) = Errands::open(alloc, 8)?;

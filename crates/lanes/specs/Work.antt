@@ -1,5 +1,6 @@
 -- The lanes of a round after their work, and the records that are written of them.
-use Rattle.std.specs.Prelude.{ℕ, ◌≡◌, ◌+◌, ◌≤◌, ◌⊎◌, Bool, true, false, Option, None, Some, All, List, [], ◌++◌, map, length}
+use Rattle.std.specs.Prelude.{ℕ, ◌≡◌, ◌+◌, ◌≤◌, ◌⊎◌, Bool, true, false, Option, None, Some, All, List}
+use Rattle.std.specs.Prelude.{[], ◌++◌, map, length}
 use Rattle.std.specs.List.{filter, flat_map, range_with_len}
 use Rattle.pcap_io.specs.Capture.{Packet}
 use Rattle.frags.specs.Account.{Keeps, KeepsBlocks, both}

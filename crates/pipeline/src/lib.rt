@@ -36,13 +36,13 @@
 //! pool of lists; the list of the side that works; a round in the ring.
 //!
 //! The ring has two places, and before a round is read one of them is free (`Arrivals::await_place`): with the one that
-//! is worked three rounds are on their way at most (`crossing::ROUNDS`). Behind a record's header, where fewer blocks are
-//! home than the record needs, the side that reads takes lists that have come (`crossing::Arrivals`), and where there is
-//! none it waits for one as long as one may come before the last round is written. Where the blocks are those of that
-//! round the one that is read is paused: its header is kept, and once all blocks but its own are home it is read to its
-//! end (`rounds::Intake::read_beside`). So a record is left half read for want of blocks only where the other side has
-//! stopped, which says so by a flag (`crossing::Handshake::end`), and a round exceeds the blocks just where it does in
-//! one thread.
+//! is worked three rounds are on their way at most (`crossing::ROUNDS`). Behind a record's header, where fewer blocks
+//! are home than the record needs, the side that reads takes lists that have come (`crossing::Arrivals`), and where
+//! there is none it waits for one as long as one may come before the last round is written. Where the blocks are those
+//! of that round the one that is read is paused: its header is kept, and once all blocks but its own are home it is
+//! read to its end (`rounds::Intake::read_beside`). So a record is left half read for want of blocks only where the
+//! other side has stopped, which says so by a flag (`crossing::Handshake::end`), and a round exceeds the blocks just
+//! where it does in one thread.
 //!
 //! Proved of [`handle_beside`], whatever both threads do at the same time, is the clause of `rounds::handle_from`,
 //! which does the same in one thread: the rounds that were read stand one behind another in the capture, each of the

@@ -40,7 +40,8 @@ const IPV6: Case = Case {
     ],
 };
 
-/// TCP over IPv4 within VXLAN, whose datagram goes without a sum: six bytes of payload, four of them in the first packet.
+/// TCP over IPv4 within VXLAN, whose datagram goes without a sum: six bytes of payload, four of them in the first
+/// packet.
 const VXLAN: Case = Case {
     host: &[
         0x02, 0x00, 0x00, 0x00, 0x00, 0x02, 0x02, 0x00, 0x00, 0x00, 0x00, 0x01, 0x08, 0x00, 0x45,
