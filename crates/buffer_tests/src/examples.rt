@@ -5,6 +5,7 @@ use block_supply::open_lists;
 use crossing::{IN_RING, has_come, send};
 use errands::Errands;
 use frags::{Outcomes, Pieces};
+use on_heap::OnHeap;
 use raw_block::{Released, Sole};
 use ref_core::{Answer, Event, WeightMachine};
 use rtrb::RingBuffer;
@@ -142,5 +143,14 @@ fn example_of_errands(rt: HostRuntime) -> Result<(), Fail> {
         done = Some((desk.redeem(&mut asker, note), task)); // (0, 7): the first task was 7
     }
     assert_eq!(rt; done, Some((0, 7)));
+    Ok(())
+}
+
+#[test]
+fn example_of_on_heap(rt: HostRuntime) -> Result<(), Fail> {
+    let alloc = rt.alloc();
+    let held = OnHeap::of(Box::new(alloc, 7)?);
+    let seven = Box::into_inner(held.into_box(alloc)); // 7
+    assert_eq!(rt; seven, 7);
     Ok(())
 }

@@ -2,8 +2,8 @@
 ghost use Rattle.std.specs.Prelude.{◌≡◌, Option, Some, None, IsSome};
 ghost use Rattle.frame_bursts.specs.declared.kept.BurstEngine.{BurstEngine as EngineOf};
 
-use crate::heap::OnHeap;
 use frame_bursts::BurstEngine;
+use on_heap::OnHeap;
 use std::marker::Model;
 
 /// An engine by its address, or none. What it drops it forgets.
@@ -16,7 +16,7 @@ pub struct Handle {
 
 impl Model for Handle {
     ghost use Rattle.frame_bursts.specs.contracts.kept.BurstEngine as engine;
-    ghost use Rattle.burst_c.specs.Heap.{heap_owns_any};
+    ghost use Rattle.on_heap.specs.Heap.{heap_owns_any};
 
     ghost also_owns = { λ h. heap_owns_any engine.the_row h.at h.value };
 }

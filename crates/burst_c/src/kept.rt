@@ -10,10 +10,10 @@ ghost use Rattle.burst_c.specs.Made.{is_made, Answers, AllStays, HasEngine, Have
 
 use crate::codes::{NO_MEMORY, OK, USAGE, code_of};
 use crate::handle::Handle;
-use crate::heap::OnHeap;
 use core::mem::replace_with;
 use frame_bursts::{BurstEngine, BurstRun};
 use frame_runs::Lent;
+use on_heap::OnHeap;
 use std::alloc::Global;
 
 /// An engine, or none: what C has filled with zeros.

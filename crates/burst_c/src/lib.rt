@@ -36,17 +36,17 @@
 //! Not said: when there is no memory; that an engine takes none after it is made (`contrib/c/burst_check` refuses it
 //! all).
 //!
-//! Its parts: `exports` (a burst), `kept` (engines), `handle` and `heap` (an engine by its address), `cuts` (the
-//! inverse), `laws` (both together), `causes`, `codes`. `specs/Made.antt` says what holds of an engine where there is
-//! one, `specs/Heap.antt` what its address owns, `specs/Cutting.antt` what cutting answers, `specs/Inverse.antt` what
-//! comes of a merged frame that is cut, `specs/Causes.antt` the numbers of causes.
+//! Its parts: `exports` (a burst), `kept` (engines), `handle` (an engine by its address), `cuts` (the inverse), `laws`
+//! (both together), `causes`, `codes`. `specs/Made.antt` says what holds of an engine where there is one,
+//! `specs/Cutting.antt` what cutting answers, `specs/Inverse.antt` what comes of a merged frame that is cut,
+//! `specs/Causes.antt` the numbers of causes; what its address owns is `heap_owns_any` of `on_heap`.
 //!
 //! Tests: `contrib/c/burst_check`.
 //!
 //! Why so:
 //!
 //! - **It is an archive of its own**, besides `offload_c`: who merges frames alone needs neither rounds nor buffers,
-//!   and builds and links 22 crates instead of those of the whole library.
+//!   and builds and links 23 crates instead of those of the whole library.
 //! - **An engine is in its place or out of it**: a call takes it out, works on it and puts it back, so that each call
 //!   is one of `frame_bursts`, and only these two steps are proved by hand. A struct of zeros is a place without an
 //!   engine, so that what `offload_gro_new` makes can be said in its contract.
@@ -59,7 +59,6 @@ mod codes;
 mod cuts;
 mod exports;
 mod handle;
-mod heap;
 mod kept;
 mod laws;
 

@@ -18,7 +18,8 @@ use denote.Triple.Walked.{walk_of}
 use Rattle.atomic_table.proofs.Walks.{proved, leaves}
 use Rattle.frame_bursts.specs.contracts.kept.BurstEngine as engines
 use Rattle.burst_c.specs.contracts.handle.Handle as handles
-use Rattle.burst_c.proofs.Fields.{alone, handle_made, Handle_words}
+use Rattle.on_heap.proofs.Fields.{alone}
+use Rattle.burst_c.proofs.Fields.{handle_made, Handle_words}
 use Rattle.burst_c.specs.contracts.handle.Handle.none.{ended, clauses}
 use Rattle.burst_c.specs.contracts.handle.Handle.none.Key.{name as #self}
 use Rattle.burst_c.proofs.handle.Handle.none.Statement.{statement}

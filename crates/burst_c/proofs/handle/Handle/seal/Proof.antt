@@ -20,11 +20,12 @@ use denote.Steps.{nothing}
 use denote.Triple.Entry.{alive}
 use denote.Triple.Walked.{Stays, stay_dropped, walk_of, Goes-dropped}
 use Rattle.atomic_table.proofs.Walks.{proved, leaves}
-use Rattle.burst_c.specs.Heap.{heap_owns}
+use Rattle.on_heap.specs.Heap.{heap_owns}
 use Rattle.frame_bursts.specs.contracts.kept.BurstEngine as engines
-use Rattle.burst_c.specs.contracts.heap.OnHeap as on_heap
+use Rattle.on_heap.specs.contracts.heap.OnHeap as on_heap
 use Rattle.burst_c.specs.contracts.handle.Handle as handles
-use Rattle.burst_c.proofs.Fields.{alone, typed, heap_told, heap_placed, handle_made}
+use Rattle.on_heap.proofs.Fields.{alone, typed, heap_told, heap_placed}
+use Rattle.burst_c.proofs.Fields.{handle_made}
 use Rattle.burst_c.proofs.Fields.{Handle_words}
 use Rattle.burst_c.specs.contracts.handle.Handle.seal.{ended, clauses}
 use Rattle.burst_c.specs.contracts.handle.Handle.seal.Key.{name as #self}

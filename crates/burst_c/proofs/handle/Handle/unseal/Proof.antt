@@ -20,12 +20,13 @@ use denote.Steps.{nothing, heard}
 use denote.Triple.Entry.{alive}
 use denote.Triple.Walked.{Stays, stay_dropped, walk_of, Goes-dropped}
 use Rattle.atomic_table.proofs.Walks.{proved, leaves}
-use Rattle.burst_c.specs.Heap.{heap_owns, heap_owns_any}
+use Rattle.on_heap.specs.Heap.{heap_owns, heap_owns_any}
 use Rattle.frame_bursts.specs.contracts.kept.BurstEngine as engines
-use Rattle.burst_c.specs.contracts.heap.OnHeap as on_heap
+use Rattle.on_heap.specs.contracts.heap.OnHeap as on_heap
 use Rattle.burst_c.specs.contracts.handle.Handle as handles
-use Rattle.burst_c.proofs.Fields.{alone, typed, heap_made, heap_placed, handle_told}
-use Rattle.burst_c.proofs.Fields.{Heap_words}
+use Rattle.on_heap.proofs.Fields.{alone, typed, heap_made, heap_placed}
+use Rattle.burst_c.proofs.Fields.{handle_told}
+use Rattle.on_heap.proofs.Fields.{Heap_words}
 use Rattle.burst_c.specs.contracts.handle.Handle.unseal.{ended, clauses}
 use Rattle.burst_c.specs.contracts.handle.Handle.unseal.Key.{name as #self}
 use Rattle.burst_c.proofs.handle.Handle.unseal.Statement.{statement}

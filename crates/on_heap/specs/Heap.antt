@@ -1,4 +1,4 @@
--- What the C heap lends of an engine: the value, and the right to free it.
+-- What the C heap lends of a value: the value, and the right to free it.
 use Rattle.std.specs.Prelude.{Option, Some, None}
 use mir.Syntax.{Ty}
 use base.Fml.{Fml, ftrue}

@@ -40,16 +40,16 @@ use Rattle.std_heap.proofs.Global.TheLaws as heap_laws
 use Rattle.std_heap.proofs.GlobalAllocator.TheImpl.Met as allocator
 use Rattle.std_heap.proofs.Handle.{heap_val, heap_Tells}
 use Rattle.std_heap.specs.contracts.GlobalAllocator.TheImpl.{ghosts, dict}
-use Rattle.burst_c.proofs.Destruct++none.drop.Code as no_drop
-use Rattle.burst_c.specs.Heap.{heap_owns}
-use Rattle.burst_c.specs.contracts.heap.OnHeap as on_heap
-use Rattle.burst_c.proofs.Fields.{alone, typed, heap_told, heap_placed}
+use Rattle.on_heap.proofs.Destruct++none.drop.Code as no_drop
+use Rattle.on_heap.specs.Heap.{heap_owns}
+use Rattle.on_heap.specs.contracts.heap.OnHeap as on_heap
+use Rattle.on_heap.proofs.Fields.{alone, typed, heap_told, heap_placed}
 use Rattle.std_alloc.specs.contracts.boxed.Box.from_raw as callee
 use Rattle.std_alloc.proofs.boxed.Box.from_raw.Met as callee_met
-use Rattle.burst_c.specs.contracts.heap.OnHeap.into_box.{ended, clauses}
-use Rattle.burst_c.specs.contracts.heap.OnHeap.into_box.Key.{name as #self}
-use Rattle.burst_c.proofs.heap.OnHeap.into_box.Statement.{statement}
-use Rattle.burst_c.proofs.heap.OnHeap.into_box.Code as code
+use Rattle.on_heap.specs.contracts.heap.OnHeap.into_box.{ended, clauses}
+use Rattle.on_heap.specs.contracts.heap.OnHeap.into_box.Key.{name as #self}
+use Rattle.on_heap.proofs.heap.OnHeap.into_box.Statement.{statement}
+use Rattle.on_heap.proofs.heap.OnHeap.into_box.Code as code
 
 pub into_box_spec : {M : Type 1} → statement M
 unfolding tables_of no_drop.code
@@ -57,7 +57,7 @@ into_box_spec {M} 𝓤 𝓛 𝓜 𝓡 wired T L dx glue =
     let H = 𝓛.H in let 𝓣 = tables 𝓤 H 𝓜 𝓡 𝓡.env in let G : RattleType = heap.the_row in
     let Z : RattleType = arg (bare (layout G)) no G in let LZ : Laws Z =
     arg_laws (bare (layout G)) no G heap_laws.the_row_laws refl in let R : RattleType = param 0 T in
-    let dd : Dict = impl ("burst_c::Destruct++none::drop" ∷ []) (tcons (layout Z) tnil) dnil in let E : box.Bx = record {
+    let dd : Dict = impl ("on_heap::Destruct++none::drop" ∷ []) (tcons (layout Z) tnil) dnil in let E : box.Bx = record {
       row = T;
       laws = L;
       al = record { row = Z; laws = LZ; g = ghosts; d = dict; drops = dd };
@@ -70,7 +70,7 @@ into_box_spec {M} 𝓤 𝓛 𝓜 𝓡 wired T L dx glue =
     (code.calls-std_heap::GlobalAllocator::deallocate 𝓡.env wired)
     (code.calls-std_heap::GlobalAllocator::grow 𝓡.env wired)
     (code.calls-std_heap::GlobalAllocator::shrink 𝓡.env wired) M 𝓤 𝓛 𝓜 𝓡 in
-    let drops = glues "burst_c::Destruct++none::drop" 𝓡.env (code.calls-burst_c::Destruct++none::drop 𝓡.env wired) Z LZ M 𝓤 𝓛 𝓜 𝓡 in
+    let drops = glues "on_heap::Destruct++none::drop" 𝓡.env (code.calls-on_heap::Destruct++none::drop 𝓡.env wired) Z LZ M 𝓤 𝓛 𝓜 𝓡 in
     let Call = triple_of 𝓛 (callee.signature T Z ghosts dict dd) (callee.spec T Z ghosts dict dd 𝓛 𝓜.mem 𝓡.returns) in
     let Ce = callee.ended T Z ghosts dict dd in
     let known = callee_met.met 𝓤 𝓛 𝓜 𝓡 (code.calls-std_alloc::boxed::Box::from_raw 𝓡.env wired) T Z L LZ ghosts dict dd passed drops in
