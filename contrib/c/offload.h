@@ -1,5 +1,5 @@
-/* offload.h: captures of TCP segments and UDP datagrams in memory, merged and cut back; and by offload_burst.h, which is included, frames merged
- * and cut where they lie. Linked from liboffload.a, or from the shared object liboffload.so.3.
+/* offload.h: captures of TCP segments and UDP datagrams in memory, merged and cut back; packet buffers; and by offload_burst.h, which is included,
+ * frames merged and cut where they lie. Linked from liboffload.a, or from the shared object liboffload.so.3.
  *
  * Each call is proved for callers that keep the rules below, and docs/PROVED.md says what of it. Nothing checks a C caller: where a rule
  * is broken the behaviour is undefined.
@@ -12,7 +12,9 @@
  *  - No call from a signal handler, nor in the child of a fork of a process that has threads.
  *
  * No call prints, reads a file, starts a thread, takes a lock, or keeps a pointer after it has returned; what it took of malloc it has
- * given back. Several threads may call at once where what is written by each is its own.
+ * given back, but for what pools and buffers keep. Several threads may call at once where what is written by each is its own, its pools and
+ * buffers too. A pool or a buffer may go from thread to thread, by a lock or the start or the end of a thread, also where others hold blocks
+ * of it.
  */
 #ifndef OFFLOAD_H
 #define OFFLOAD_H
@@ -40,6 +42,7 @@ enum offload_status {
     OFFLOAD_USAGE = 2,      /* an option isn't as it has to be; `output` is as it was, *count is 0 */
     OFFLOAD_MALFORMED = 3,  /* the capture is refused at a record; as OFFLOAD_OK, of the records before it */
     OFFLOAD_POOL_EMPTY = 4, /* a round needs more than `blocks` blocks; as OFFLOAD_OK, of the rounds before it */
+    OFFLOAD_NOT_SOLE = 5,   /* of buffers alone: others hold the block that would be written, or it was shared too often */
     OFFLOAD_NO_MEMORY = 7,  /* malloc refused; `output` is as it was, *count is 0 */
     OFFLOAD_NO_ROOM = 9     /* the output is longer than `output`, which is as it was; *count is the output's length */
 };
@@ -108,6 +111,83 @@ uint32_t offload_queue(const uint8_t *frame, size_t frame_length, uint32_t queue
  * a table that isn't as it has to be, that number. */
 uint32_t offload_queue_rss(const uint8_t *frame, size_t frame_length, const uint8_t *rss_key, const uint8_t *rss_table,
                            size_t rss_table_length, uint32_t queues);
+
+/* ---- packet buffers, as struct sk_buff: a head block with headroom and tailroom, clones without a copy, and pieces of other blocks
+ *
+ *   head: a block of 2048 bytes                      pieces of other blocks
+ *  +----------+---------------------+----------+    +---------+   +---------+
+ *  | headroom | the buffer's bytes  | tailroom |--->| piece   |-->| piece   |--> ..
+ *  +----------+---------------------+----------+    +---------+   +---------+
+ *
+ * A block may be held by several buffers: clones, and parts that were split off or attached. Who holds one alone may write it; else
+ * OFFLOAD_NOT_SOLE is answered, and offload_skb_unshare copies it. Blocks that nobody holds any more come home to the pool that is passed, as
+ * many as have a place there: once each buffer was released, to the pool that it was made of, as many are home as were made.
+ *
+ * A struct is filled with zeros before its first call, which makes it a place without a pool or a buffer, and is then only what calls made
+ * of it. It isn't copied and both used. A pool is used by one thread at a time, and so is a buffer. Where a call isn't answered OFFLOAD_OK
+ * nothing has changed, but for what stands beside it; a number that isn't as it has to be is OFFLOAD_USAGE, and so are a pool or a buffer
+ * where there is none, and a place for a new one that isn't empty. Two structs that are passed are never one. */
+
+struct offload_pool {
+    void *at;
+    uint8_t made;
+};
+
+struct offload_skb {
+    void *at;
+    uint8_t made;
+};
+
+/* A pool of so many blocks of 2048 bytes, 1 to 65,536, all home. Their memory is taken here. Also NO_MEMORY. */
+uint32_t offload_pool_new(struct offload_pool *pool, uint32_t blocks);
+
+/* How many blocks are home; 0 where there is no pool. */
+uint32_t offload_pool_home(struct offload_pool *pool);
+
+/* Ends a pool, and frees the blocks that are home: the struct is all zeros then. Buffers stay what they are, and their blocks go home to
+ * another pool, or are freed where it has no place for them. */
+void offload_pool_free(struct offload_pool *pool);
+
+/* An empty buffer in a block of the pool, with so much headroom, 0 to 2048; what is left of the block is its tailroom. Also POOL_EMPTY and
+ * NO_MEMORY: a buffer takes some 100 bytes of malloc. */
+uint32_t offload_skb_new(struct offload_pool *pool, struct offload_skb *skb, size_t headroom);
+
+/* Ends a buffer: the struct is all zeros then. NO_MEMORY only of one with more pieces than the pool was made of: the buffer stays. */
+uint32_t offload_skb_release(struct offload_pool *pool, struct offload_skb *skb);
+
+/* How many bytes a buffer has; 0 where there is none. */
+size_t offload_skb_length(struct offload_skb *skb);
+
+/* Copies `into_length` bytes out, from the place `at` on. USAGE where the buffer has fewer: nothing is written. */
+uint32_t offload_skb_read(struct offload_skb *skb, size_t at, uint8_t *into, size_t into_length);
+
+/* Bytes in front of the buffer's, by its headroom, and behind them, by its tailroom; there is tailroom only where no piece follows. Also
+ * NO_ROOM, which is judged first, and NOT_SOLE. No buffer has 2^32 bytes. */
+uint32_t offload_skb_push(struct offload_skb *skb, const uint8_t *bytes, size_t length);
+uint32_t offload_skb_put_tail(struct offload_skb *skb, const uint8_t *bytes, size_t length);
+
+/* The first bytes are gone, or the last; skb_trim of Linux is told how many stay. USAGE where there are fewer. NO_MEMORY as for a release. */
+uint32_t offload_skb_pull(struct offload_pool *pool, struct offload_skb *skb, size_t length);
+uint32_t offload_skb_trim(struct offload_pool *pool, struct offload_skb *skb, size_t length);
+
+/* A second buffer of the same bytes, uncopied; both hold the blocks then. NOT_SOLE where a block was shared too often, more than ten
+ * thousand times; NO_MEMORY: the head's block may count as held by others then, until it is unshared. */
+uint32_t offload_skb_clone(struct offload_skb *skb, struct offload_skb *clone);
+
+/* The buffer alone holds its head's block then, of the same bytes: where others do, they are copied into a block of the pool. POOL_EMPTY where
+ * none is home, which is answered also where a copy might not be needed. */
+uint32_t offload_skb_unshare(struct offload_pool *pool, struct offload_skb *skb);
+
+/* A buffer of the same bytes in blocks of the pool that nobody else holds, with headroom 64. POOL_EMPTY where fewer are home than it takes,
+ * ceil((length + 64) / 2048); NO_MEMORY. */
+uint32_t offload_skb_copy(struct offload_pool *pool, struct offload_skb *skb, struct offload_skb *copy);
+
+/* The buffer keeps its first `at` bytes, and `behind` has the rest, uncopied, behind a head of the pool that is 2048 bytes of headroom. USAGE
+ * where there are fewer bytes; POOL_EMPTY, NOT_SOLE as for a clone, NO_MEMORY. */
+uint32_t offload_skb_split_at(struct offload_pool *pool, struct offload_skb *skb, size_t at, struct offload_skb *behind);
+
+/* The other's bytes follow, uncopied, and the other is all zeros then. USAGE where they would have 2^32 bytes; NO_MEMORY. */
+uint32_t offload_skb_attach(struct offload_pool *pool, struct offload_skb *skb, struct offload_skb *other);
 
 #ifdef __cplusplus
 }

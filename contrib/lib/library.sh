@@ -1,9 +1,10 @@
 # The library for C, as building.sh has it found or made. Sourced by a script of bash that has set `root`, `teller` and `refused`; behind
-# `find_product` the file is `product`. Where `library` is `burst` it is that of bursts alone.
+# `find_product` the file is `product`. Where `library` is `burst` it is that of bursts alone, and where it is `skb` that of packet buffers.
 # shellcheck shell=bash disable=SC2034,SC2154
 
 case ${library-} in
   burst) crate=burst_c product=liboffload_burst.a ;;
+  skb) crate=skb_c product=liboffload_skb.a ;;
   *) crate=offload_c product=liboffload.a ;;
 esac
 proved=$root/crates/$crate/out/lib$crate.a

@@ -12,6 +12,12 @@
     offload.cut(frame, 1448, fill=True)                  # the segments of a merged frame, or of a large send
     offload.why(frame)                                   # why a frame can't be merged
 
+    with offload.Pool(64) as pool:                       # blocks of 2048 bytes, and buffers over them as struct sk_buff
+        packet = pool.packet(payload, headroom=64)
+        clone = packet.clone()                           # no byte is copied
+        clone.unshare()
+        clone.push(header)
+
 A call answers the bytes that the program writes, or raises an error of this module, whose text is the program's line. Nothing but the library
 is needed, which is looked for at OFFLOAD_LIBRARY, where `contrib/install` puts it beside this file, and where the loader finds liboffload.so.3.
 Calls run in the thread that makes them, without the interpreter's lock, so several threads may call at once.
@@ -20,16 +26,17 @@ Calls run in the thread that makes them, without the interpreter's lock, so seve
 import ctypes
 import os
 import struct
+import threading
 from collections.abc import Callable, Iterable, Iterator, Sequence
 from typing import NamedTuple, Optional, Union
 
 __all__ = ["ENOUGH_BLOCKS", "Gro", "MalformedError", "NoMemoryError", "OffloadError", "PoolEmptyError", "Run", "UsageError"]
-__all__ += ["cut", "merge", "queue", "segment", "why"]
+__all__ += ["BlocksError", "NoRoomError", "NotSoleError", "Packet", "Pool", "cut", "merge", "queue", "segment", "why"]
 
 Bytes = Union[bytes, bytearray, memoryview]
 
 VERSION = 3  # of contrib/c/offload.h
-OK, USAGE, MALFORMED, POOL_EMPTY, NO_MEMORY, NO_ROOM = 0, 2, 3, 4, 7, 9
+OK, USAGE, MALFORMED, POOL_EMPTY, NOT_SOLE, NO_MEMORY, NO_ROOM = 0, 2, 3, 4, 5, 7, 9
 CAUSES = ("", "cut short", "a fragment", "IPv4 options", "an extension header", "another layout", "length", "flags", "no payload", "sum")
 ENOUGH_BLOCKS = 8384  # with so many no round of 64 records exceeds the pool
 BLOCKS_OF_A_RECORD = 131
@@ -78,6 +85,24 @@ class NoMemoryError(OffloadError, MemoryError):
     status = NO_MEMORY
 
 
+class BlocksError(OffloadError):
+    """Fewer blocks of a pool are home than a call takes; nothing has changed."""
+
+    status = POOL_EMPTY
+
+
+class NotSoleError(OffloadError):
+    """Others hold the block that would be written, or it was shared too often; nothing has changed."""
+
+    status = NOT_SOLE
+
+
+class NoRoomError(OffloadError):
+    """There is no headroom or tailroom for so many bytes; nothing has changed."""
+
+    status = NO_ROOM
+
+
 class Options(ctypes.Structure):
     """struct offload_options of contrib/c/offload.h."""
 
@@ -122,7 +147,7 @@ class _Segment(ctypes.Structure):
 
 
 class _Engine(ctypes.Structure):
-    """struct offload_gro of contrib/c/offload_burst.h."""
+    """struct offload_gro of contrib/c/offload_burst.h, and struct offload_pool and offload_skb of contrib/c/offload.h."""
 
     _fields_ = [("at", ctypes.c_void_p), ("made", ctypes.c_uint8)]
 
@@ -154,6 +179,26 @@ def _loaded() -> ctypes.CDLL:
     library.offload_gso_burst.restype = number
     library.offload_fill_sums.argtypes, library.offload_fill_sums.restype = [out, size], number
     library.offload_why.argtypes, library.offload_why.restype = [out, size, number], number
+    library.offload_pool_new.argtypes, library.offload_pool_new.restype = [engine, number], number
+    library.offload_pool_home.argtypes, library.offload_pool_home.restype = [engine], number
+    library.offload_pool_free.argtypes, library.offload_pool_free.restype = [engine], None
+    library.offload_skb_length.argtypes, library.offload_skb_length.restype = [engine], size
+    for name, types in (
+        ("new", [engine, engine, size]),
+        ("release", [engine, engine]),
+        ("read", [engine, size, out, size]),
+        ("push", [engine, data, size]),
+        ("put_tail", [engine, data, size]),
+        ("pull", [engine, engine, size]),
+        ("trim", [engine, engine, size]),
+        ("clone", [engine, engine]),
+        ("copy", [engine, engine, engine]),
+        ("unshare", [engine, engine]),
+        ("split_at", [engine, engine, size, engine]),
+        ("attach", [engine, engine, engine]),
+    ):
+        call = getattr(library, f"offload_skb_{name}")
+        call.argtypes, call.restype = types, number
     return library
 
 
@@ -162,6 +207,12 @@ _library = _loaded()
 
 def _number(name: str, value: int) -> int:
     if not 0 <= value < 2**32:
+        raise UsageError(f"{name} is out of its range: {value}")
+    return value
+
+
+def _size(name: str, value: int) -> int:
+    if not 0 <= value < 2**63:
         raise UsageError(f"{name} is out of its range: {value}")
     return value
 
@@ -371,6 +422,134 @@ class Gro:
             members.append(views[at])
             at = self._next[at]
         return Run(run.n, run.m, run.modes, run.pseudo, bytes(run.headers[: run.headers_length]), members)
+
+
+class Pool:
+    """A pool of so many blocks of 2048 bytes, 1 to 65,536, and the packets over them; threads take turns.
+
+    A packet that isn't released gives its blocks back once nothing refers to it. Raises UsageError and NoMemoryError.
+    """
+
+    def __init__(self, blocks: int = 64) -> None:
+        self._at, self._lock = _Engine(), threading.RLock()
+        _checked(_library.offload_pool_new(self._at, _number("blocks", blocks)), f"blocks is out of its range: {blocks}")
+
+    def __enter__(self) -> "Pool":
+        return self
+
+    def __exit__(self, *_: object) -> None:
+        self.close()
+
+    def __del__(self) -> None:
+        self.close()
+
+    def close(self) -> None:
+        """Ends the pool; packets that are left can be read and cloned, and their blocks are freed."""
+        with self._lock:
+            _library.offload_pool_free(self._at)
+
+    @property
+    def home(self) -> int:
+        """How many blocks are home: all that were made, once each packet was released."""
+        with self._lock:
+            return _library.offload_pool_home(self._at)
+
+    def packet(self, payload: Bytes = b"", headroom: int = 64) -> "Packet":
+        """A packet of these bytes, behind so much headroom of its block. Raises UsageError, BlocksError, NoRoomError and NoMemoryError."""
+        packet = Packet(self)
+        packet._call("new", _size("headroom", headroom))
+        if payload:
+            packet.put_tail(payload)
+        return packet
+
+
+class Packet:
+    """A packet buffer of a pool, which Pool.packet makes, as struct sk_buff: calls are those of contrib/c/offload.h.
+
+    bytes(packet) are its bytes, which are copied. Each call raises UsageError where it can't be made, and then nothing has changed.
+    """
+
+    def __init__(self, pool: Pool) -> None:
+        self._pool, self._at = pool, _Engine()
+
+    def __del__(self) -> None:
+        if not self._at.made:
+            return
+        with self._pool._lock:
+            if _library.offload_skb_release(self._pool._at, self._at) == USAGE:  # the pool is closed: one without a place frees the blocks
+                other = _Engine()
+                if _library.offload_pool_new(other, 1) == OK:
+                    _library.offload_skb_release(other, self._at)
+                    _library.offload_pool_free(other)
+
+    def __len__(self) -> int:
+        with self._pool._lock:
+            return _library.offload_skb_length(self._at)
+
+    def __bytes__(self) -> bytes:
+        return self.read(0, len(self))
+
+    def _call(self, name: str, *words: object, of_pool: bool = True) -> None:
+        with self._pool._lock:
+            places = (self._pool._at, self._at) if of_pool else (self._at,)
+            status = getattr(_library, f"offload_skb_{name}")(*places, *words)
+        for kind in (BlocksError, NotSoleError, NoRoomError):
+            if status == kind.status:
+                raise kind(f"{name}: {kind.__doc__.split(';', maxsplit=1)[0]}")
+        _checked(status, f"{name} can't be done with these numbers, or of a packet that was released")
+
+    def _made(self, name: str, *words: object, of_pool: bool = True) -> "Packet":
+        packet = Packet(self._pool)
+        self._call(name, *words, packet._at, of_pool=of_pool)
+        return packet
+
+    def read(self, at: int, length: int) -> bytes:
+        """A copy of so many bytes, from a place on."""
+        room = ctypes.create_string_buffer(_size("length", length) or 1)
+        self._call("read", _size("at", at), room, length, of_pool=False)
+        return room.raw[:length]
+
+    def push(self, front: Bytes) -> None:
+        """Bytes in front. Raises NoRoomError, and NotSoleError."""
+        self._call("push", bytes(front), len(front), of_pool=False)
+
+    def put_tail(self, back: Bytes) -> None:
+        """Bytes behind. Raises NoRoomError, and NotSoleError."""
+        self._call("put_tail", bytes(back), len(back), of_pool=False)
+
+    def pull(self, length: int) -> None:
+        """The first bytes are gone."""
+        self._call("pull", _size("length", length))
+
+    def trim(self, length: int) -> None:
+        """The last bytes are gone."""
+        self._call("trim", _size("length", length))
+
+    def clone(self) -> "Packet":
+        """A second packet of the same bytes, uncopied. Raises NotSoleError where it was cloned too often."""
+        return self._made("clone", of_pool=False)
+
+    def copy(self) -> "Packet":
+        """A packet of the same bytes in blocks of its own. Raises BlocksError."""
+        return self._made("copy")
+
+    def unshare(self) -> None:
+        """Nobody else holds the head's block then. Raises BlocksError."""
+        self._call("unshare")
+
+    def split_at(self, at: int) -> "Packet":
+        """The packet keeps its first bytes; the rest is another one, uncopied. Raises BlocksError and NotSoleError."""
+        return self._made("split_at", _size("at", at))
+
+    def attach(self, other: "Packet") -> None:
+        """Another packet's bytes follow, uncopied, and that one is released."""
+        if other is self or other._pool is not self._pool:
+            raise UsageError("a packet is attached to another one of its pool")
+        self._call("attach", other._at)
+
+    def release(self) -> None:
+        """The packet gives its blocks back."""
+        self._call("release")
 
 
 def cut(frame: Bytes, segment: int, *, modes: int = 0, fill: bool = False) -> list[list[Union[bytes, memoryview]]]:

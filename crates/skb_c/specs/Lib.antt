@@ -1,0 +1,4 @@
+pub mod Codes
+pub mod Does
+pub mod Held
+pub mod Home
