@@ -17,7 +17,8 @@ IsPutBehind xs a b code = (done : Result Unit RoomFault) × IsPut a xs b done ×
 -- the bytes from `at` on, as many as there is room for; 2 where there are fewer
 abbrev pub IsRead : ℕ → SkbState → List ℕ → List ℕ → ℕ → Type 0
 IsRead at a old new code = ((at + length old ≤ buffer_size a)
-    × (new ≡ slice_range (buffer_bytes a) at (at + length old)) × (code ≡ 0)) ⊎ ((buffer_size a < at + length old) × (new ≡ old) × (code ≡ 2))
+    × (new ≡ slice_range (buffer_bytes a) at (at + length old)) × (code ≡ 0))
+    ⊎ ((buffer_size a < at + length old) × (new ≡ old) × (code ≡ 2))
 
 -- the number of bytes, 0 of no buffer
 abbrev pub size_said : Option SkbState → ℕ

@@ -9,8 +9,8 @@
 //! - `made`, `few`, `alone` of [`offload_pool_new`]: a pool has so many blocks, all home. `home`, `same` of
 //!   [`offload_pool_home`], `none` of [`offload_pool_free`].
 //! - `made` of [`offload_skb_new`]: the buffer is empty, with its headroom, in the block that came home last.
-//! - `push` of [`offload_skb_push`], `put` of [`offload_skb_put_tail`], `cloned` of [`offload_skb_clone`],
-//!   `unshared` of [`offload_skb_unshare`], `split` of [`offload_skb_split_at`], `copied` of [`offload_skb_copy`], `attached` of
+//! - `push` of [`offload_skb_push`], `put` of [`offload_skb_put_tail`], `cloned` of [`offload_skb_clone`], `unshared`
+//!   of [`offload_skb_unshare`], `split` of [`offload_skb_split_at`], `copied` of [`offload_skb_copy`], `attached` of
 //!   [`offload_skb_attach`]: the buffers afterwards, the pool's blocks, and the cause of each answer but 0. A head that
 //!   others hold isn't written.
 //! - `pulled` of [`offload_skb_pull`], `trimmed` of [`offload_skb_trim`]: the bytes, and that by the account nothing is
