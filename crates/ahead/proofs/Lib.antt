@@ -1,0 +1,2 @@
+-- a round that was read beside the work of another, and its rest
+mod Beside

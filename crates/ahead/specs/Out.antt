@@ -3,8 +3,8 @@ use Rattle.std.specs.Prelude.{ℕ, ◌≡◌, ◌⊎◌, ◌+◌, ◌≤◌, Res
 use Rattle.block_pool.specs.PassState.{risen, PassState}
 use Rattle.block_pool.specs.PoolState.{PoolState}
 use Rattle.block_supply.specs.Lists.{weights_home}
-use Rattle.rounds.specs.declared.round.ReadAhead.{ReadAhead}
-use Rattle.rounds.specs.declared.round.ReadAhead.TheVariants as ahead
+use Rattle.ahead.specs.declared.paused.ReadAhead.{ReadAhead}
+use Rattle.ahead.specs.declared.paused.ReadAhead.TheVariants as ahead
 use Rattle.rounds.specs.declared.round.RoundEnd.TheVariants as ends
 use Rattle.rounds.specs.RoundOf.{Brought}
 use Rattle.rounds.specs.RoundsState.{WorkedState}

@@ -17,29 +17,60 @@ ghost use Rattle.offload_model.specs.Written.{round_records};
 ghost use Rattle.gro.specs.Slots.{packet_of};
 ghost use Rattle.lanes.specs.Lanes.{IsMerged};
 ghost use Rattle.reading.specs.Reading.{KeepsHead};
-ghost use Rattle.rounds.specs.Ahead.{round_of, GivesBehind, IfPaused, IfRead, Lacks, ReadsAhead, Waits};
 ghost use Rattle.rounds.specs.Benches.{options_at, GivesSpares, IsLent, LendsWork};
-ghost use Rattle.rounds.specs.Filling.{reached, FillsAhead};
+ghost use Rattle.rounds.specs.Filling.{reached};
 ghost use Rattle.rounds.specs.Lanes.{worked_records, IsKeptWorkOf, WorksAs};
 ghost use Rattle.rounds.specs.Merging.{options_of};
-ghost use Rattle.rounds.specs.Reading.{FillsRound, GivesRound, NumberedTo, NumbersOn};
-ghost use Rattle.rounds.specs.RoundOf.{Came, Takes};
+ghost use Rattle.rounds.specs.Reading.{GivesRound};
+ghost use Rattle.rounds.specs.RoundOf.{brought_by, Came, Takes};
 ghost use Rattle.rounds.specs.Weights.{weights_of, weights_left};
+ghost use Rattle.ahead.specs.Ahead.{round_of, FillsAhead, FillsRound, GivesBehind, IfPaused, IfRead, Lacks, NumberedTo};
+ghost use Rattle.ahead.specs.Ahead.{NumbersOn, ReadsAhead, Waits};
 ghost use Rattle.ahead.specs.Out.{blocks_out, brought_listed, weights_out, GaveWorked};
 
 use crate::lists::{ListName, NextLists};
+use crate::paused::{Paused, ReadAhead};
 use block_pool::Giver;
-use block_supply::{Taker, open_lists};
+use block_supply::{AllHome, Supply, Taker, open_lists};
 use lanes::Works;
 use off_io::Source;
 use pcap_io::CaptureReader;
-use rounds::{
-    Bench, Intake, Paused, ReadAhead, Rest, Round, RoundEnd, RoundRead, Rounds, Worked, bring_lists,
-};
+use rounds::{Bench, Intake, Rest, Round, RoundEnd, RoundRead, Rounds, Worked, bring_lists};
 use std::alloc::AllocError;
 use std::marker::Brand;
 use std::sync::Wait;
 use std::thread::{Threads, join_mut};
+
+// Reads the next round as far as its blocks come; where there was no memory for it none is read. The runtime goes with
+// it for the borrow checker's part alone, by which what a side borrows ends with what both borrow.
+fn read_next<R: Sync, S: Source, H: Supply>(
+    _rt: &R,
+    intake: &mut Intake,
+    reader: &mut CaptureReader<'_, S>,
+    more: &mut H,
+) -> ReadAhead
+    requires ready { IsReady (place_of reader.old) }
+    requires link { (place_of reader.old).link ≡ Ethernet }
+    ensures same_source { SameLoan reader.old reader.new }
+    ensures fills { FillsAhead intake.old.blocks intake.old.budget (reached S.left S.faults reader.old)
+        (reached S.left S.faults reader.new) result }
+    ensures paused { IfPaused result (Lacks intake.new.home intake.old.blocks intake.old.taken intake.new.taken) }
+    ensures refused { IfPaused result (λ _. min (H.refusals more.old + 1) (2 ^ 64 - 1) ≤ H.refusals more.new) }
+    ensures came { Came (brought_by H.weights H.refusals more.old) (brought_by H.weights H.refusals more.new)
+        intake.old.home (intake.new.home + (round_of result).blocks) (λ h. weighed h intake.old.stock)
+        (λ h. weighed h intake.new.stock + weights_of (round_of result) h) }
+    ensures same { (intake.new.blocks ≡ intake.old.blocks) × (intake.new.budget ≡ intake.old.budget)
+        × (intake.new.empties ≡ intake.old.empties) × (intake.new.pauses ≡ intake.old.pauses) }
+    ensures budget { (1 ≤ intake.old.budget) × (intake.old.budget ≤ 4096) }
+    ensures takes { Takes intake.old.blocks intake.old.taken intake.new.taken 0 (round_of result).blocks }
+{
+    let mut reading = match intake.begin() {
+        Ok(reading) => reading,
+        Err(_) => return ReadAhead::Read(intake.read_none()),
+    };
+    let halt = intake.read(reader, more, &mut reading);
+    ReadAhead::of(reading, halt)
+}
 
 // One side reads, in a thread of its own, and takes the lists that the other gives, which works here.
 fn work_beside<'a, R: Threads + Wait + Sync, N: ListName + Send, W: Works, S: Source + Send>(
@@ -100,10 +131,7 @@ fn work_beside<'a, R: Threads + Wait + Sync, N: ListName + Send, W: Works, S: So
             ensures budget { (1 ≤ intake.entry.now.budget) × (intake.entry.now.budget ≤ 4096) }
             ensures takes { Takes intake.entry.now.blocks intake.entry.now.taken intake.exit.now.taken 0
                 (round_of result).blocks }
-        {
-            let blank = intake.begin();
-            intake.read_ahead(rt, reader, more, blank)
-        },
+        { read_next(rt, intake, reader, more) },
         &mut || -> Result<Worked, Rest>
             requires few { round.now.blocks ≤ bench.now.blocks }
             requires lent { IsLent giver.now }
@@ -291,10 +319,22 @@ pub fn read_rest<S: Source>(
     ensures failed { result.end ≡ RoundEnd.ReadFault
         → Rose (S.faults (source_of reader.old)) (S.faults (source_of reader.new)) }
 {
+    let mut reading = paused.reading();
     if rounds.bench.make_room().is_err() {
-        let round = paused.into_round();
+        let round = reading.into_round();
         let end = RoundEnd::NoMemory;
         return RoundRead { round, end };
     }
-    rounds.intake.read_on(paused, reader)
+    if rounds.intake.make_room(&mut reading).is_err() {
+        let round = reading.into_round();
+        return RoundRead {
+            round,
+            end: RoundEnd::NoMemory,
+        };
+    }
+    let halt = rounds
+        .intake
+        .read(reader, &mut AllHome::new(), &mut reading);
+    let (round, end) = (reading.into_round(), halt.end());
+    RoundRead { round, end }
 }

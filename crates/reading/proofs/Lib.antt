@@ -4,5 +4,7 @@ mod Filling
 pub mod Laying
 -- a record that is read
 mod Recording
+-- where a reader stands at one
+pub mod Standing
 -- the blocks that it takes
 mod Spending

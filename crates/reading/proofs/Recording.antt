@@ -15,9 +15,9 @@ use Rattle.pcap_io.specs.declared.faults.CapFault.{CapFault}
 use Rattle.pcap_io.specs.declared.faults.InFault.{InFault}
 use Rattle.pcap_io.specs.declared.faults.InFault.TheVariants as faults
 use Rattle.pcap_io.specs.Capture.{Found, packet, ended, one_more, records_from}
-use Rattle.pcap_io.specs.Places.{Counted, EntersBody, found_at, IsHead, IsReady, IsRefusal, ReadsOn}
+use Rattle.pcap_io.specs.Places.{EntersBody, found_at, IsHead, IsReady, IsRefusal, ReadsOn}
 use Rattle.pcap_io.specs.Reading.{GivesHead, RefusesHead, TakesHead}
-use Rattle.pcap_io.specs.Headers.{captured_limit, first_that_holds, head_refusals, is_bad_original, lacks_off_head}
+use Rattle.pcap_io.specs.Headers.{first_that_holds, head_refusals}
 use Rattle.pcap_io.specs.Lengths.{lengths_at}
 use Rattle.pcap_io.specs.declared.faults.CapKind.TheVariants.{ShortRecordHeader}
 use Rattle.pcap_io.proofs.LengthLaws.{lengths_by_record, lengths_refused}
@@ -197,12 +197,12 @@ needs_more old mid used blocks need head bytes left enters is more takes =
     let split : bytes ≡ front ++ left = sym (take-append-drop 16 bytes) ∙ ap (λ (l : List ℕ). front ++ l) (sym takes.rest) in
     (head.captured, (some.0, (some.1, is, more, (front, split), (front, split, here))))
 
-pub empty_given : (a b : Option (List ℕ)) (old mid : Place) (used blocks need : ℕ) (front : List ℕ) (found : Option RecHead) (head : RecHead) → found ≡ Some head → IfSome found (EntersBody old mid)
+pub empty_given : (a b : Option (List ℕ)) (old mid : Place) (used blocks need : ℕ) (front : List ℕ) (found : Option RecHead) (head : RecHead) → found ≡ Some head → IfSome found (KeepsHead old mid)
     → need ≡ used + need_of (head.captured - front_size old.link) → blocks < need
     → Told a b (GivesHead old (Ok found)) → Told a b (GivesRecord used blocks old mid front (Err (PoolEmpty need)))
-empty_given a b old mid used blocks need front found head some enters is more told =
+empty_given a b old mid used blocks need front found head some keeps is more told =
     let at_some : Told a b (GivesHead old (Ok (Some head))) = subst (λ (f : Option RecHead). Told a b (GivesHead old (Ok f))) some told in
-    let entered : EntersBody old mid head = subst (λ (f : Option RecHead). IfSome f (EntersBody old mid)) some enters in
+    let entered = (subst (λ (f : Option RecHead). IfSome f (KeepsHead old mid)) some keeps).enters in
     Told-weaker a b (GivesHead old (Ok (Some head))) (GivesRecord used blocks old mid front (Err (PoolEmpty need)))
     (λ bytes left takes. needs_more old mid used blocks need head bytes left entered is more takes) at_some
 
@@ -284,19 +284,6 @@ stop_in (Err stop) = stop
 pub rose_after : (before mid now : ℕ) → before ≤ mid → Rose mid now → Rose before now
 rose_after before mid now later rose = omega (arith, later, rose)
 
--- what was found has the fields of a header
-pub entered : (old new : Place) (found : Option RecHead) (head : RecHead) → found ≡ Some head → IfSome found (EntersBody old new) → EntersBody old new head
-entered old new found head some enters = subst (λ (f : Option RecHead). IfSome f (EntersBody old new)) some enters
-
 -- the header that was found is kept
-pub keeps_head : (at new : Place) (found : Option RecHead) (head : RecHead) → found ≡ Some head → IsReady at → IfSome found (EntersBody at new)
-    → IfSome found (λ (it : RecHead). it.captured ≤ captured_limit at.link) → IfSome found (λ (it : RecHead). is_bad_original at.link it.original ≡ false)
-    → IfSome found (λ (it : RecHead). lacks_off_head at.link it.captured ≡ false) → Counted new → KeepsHead at new head
-keeps_head at new found head some ready enters captured original off_head counted = record {
-  ready = ready;
-  enters = subst (λ (f : Option RecHead). IfSome f (EntersBody at new)) some enters;
-  captured = subst (λ (f : Option RecHead). IfSome f (λ (it : RecHead). it.captured ≤ captured_limit at.link)) some captured;
-  original = subst (λ (f : Option RecHead). IfSome f (λ (it : RecHead). is_bad_original at.link it.original ≡ false)) some original;
-  off_head = subst (λ (f : Option RecHead). IfSome f (λ (it : RecHead). lacks_off_head at.link it.captured ≡ false)) some off_head;
-  counted = counted;
-}
+pub kept_head : (at new : Place) (found : Option RecHead) (head : RecHead) → found ≡ Some head → IfSome found (KeepsHead at new) → KeepsHead at new head
+kept_head at new found head some keeps = subst (λ (f : Option RecHead). IfSome f (KeepsHead at new)) some keeps

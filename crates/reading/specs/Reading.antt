@@ -1,6 +1,7 @@
 -- What reading a record into blocks says of the bytes that were left before it and are left after it.
 use Rattle.std.specs.Prelude.{ℕ, ◌≡◌, ◌+◌, ◌-◌, ◌<◌, ◌≤◌, List, [], ◌∷◌, ◌++◌, length, map, false, None, Some, Result}
-use Rattle.std.specs.Prelude.{Ok, Err}
+use Rattle.std.specs.Prelude.{Ok, Err, Option}
+use Rattle.off_io.specs.Told.{Told}
 use Rattle.skb.specs.SkbState.{buffer_bytes}
 use Rattle.pcap_io.specs.declared.place.Place.{Place}
 use Rattle.pcap_io.specs.declared.heads.Link.{Link}
@@ -82,7 +83,7 @@ NeedsMore used blocks need place bytes left =
     × (need ≡ used + need_of (len - front_size place.link)) × (blocks < need) × Loses bytes left
     × Announces place (len ∷ []) bytes left))
 
--- One record, where `used` blocks are the round's already. Where its blocks don't come its header is gone: `kept` of
+-- One record, where `used` blocks are the round's already. Where its blocks don't come its header is gone: `stands` of
 -- `read_record` says which.
 abbrev pub GivesRecord : ℕ → ℕ → Place → Place → List ℕ → Result Held Stop → List ℕ → List ℕ → Type 0
 GivesRecord used blocks old new front (Ok p) bytes left = Passes old new (record_of front p ∷ []) bytes left
@@ -124,6 +125,21 @@ pub record KeepsHead (at new : Place) (head : RecHead) : Type 0 where
   pub original : is_bad_original at.link head.original ≡ false
   pub off_head : lacks_off_head at.link head.captured ≡ false
   pub counted : Counted new
+
+-- A record begins at the place `at`: there the reader stands, or behind the record's header, which is kept.
+abbrev pub IsAt : Option RecHead → Place → Place → Type 0
+IsAt None at place = (place ≡ at) × IsReady at
+IsAt (Some head) at place = KeepsHead at place head
+
+-- the bytes that were left where the record begins, and those that are left here
+abbrev pub Opens : Option RecHead → Place → List ℕ → List ℕ → Type 0
+Opens None at opened left = opened ≡ left
+Opens (Some head) at opened left = GivesHead at (Ok (Some head)) opened left
+
+-- both: what the source had left where the record begins is `before`, and `left` what it has left here
+pub record StandsAt (kept : Option RecHead) (at place : Place) (before left : Option (List ℕ)) : Type 0 where
+  pub is : IsAt kept at place
+  pub told : Told before left (Opens kept at)
 
 -- the rest of a record whose header was kept: whatever bytes that was taken of, with it they come to this
 abbrev pub GivesKept : ℕ → ℕ → Place → Place → RecHead → List ℕ → Result Held Stop → List ℕ → List ℕ → Type 0

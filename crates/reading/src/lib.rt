@@ -10,7 +10,7 @@
 //! Between its header and its body what a record needs is known, and its blocks come home where they are out: whoever
 //! has a [`Supply`](block_supply::Supply) of them brings them then, and no sooner; who brings none is
 //! [`AllHome`](block_supply::AllHome). Where as many are home as it needs nobody is asked. Where they don't come the
-//! header is kept, by an argument so that no answer has to carry it, and the reader stands behind it: [`finish_record`]
+//! header is kept, by an argument so that no answer has to carry it, and the reader stands behind it: the next call
 //! reads the body once they are home.
 //!
 //! Nobody else holds a block of a buffer that was read, and its blocks are marked in turn. Where that stays so they go
@@ -21,9 +21,9 @@
 //! - `given`: the packet is the next one of the capture, and a refusal is told by the capture's bytes alone;
 //!   `PoolEmpty` exactly where the round's need exceeds the blocks, with that need, judged by the record's header.
 //! - `kept`: where a record lacks blocks its header is kept, fewer are home than it needs, with it the round doesn't
-//!   exceed the blocks, and none was taken; `unkept`: else nothing is kept; `given` of [`finish_record`]: with the
-//!   bytes of its header, whatever they were, it is then read as any other. `refused`, `asked`: the supply counted that
-//!   it found none.
+//!   exceed the blocks, and none was taken; `unkept`: else nothing is kept. `stands`, `given`: with the bytes of its
+//!   header, whatever they were, it is then read as any other. `tells`: a source that told what it has left tells it
+//!   still. `refused`, `asked`: the supply counted that it found none.
 //! - `home`, `spares`, `back`: what of the pool is out, beside what came home meanwhile, is what the packet and its
 //!   spares have, and after a refusal nothing; `named`, `named_back`: these are just the same blocks, by their names;
 //!   `taken`, `most`, `least`: by how much the count of takes rises.
@@ -62,4 +62,4 @@ mod body;
 mod record;
 
 pub use blocks::bring_blocks;
-pub use record::{Stop, finish_record, read_record};
+pub use record::{Stop, read_record};

@@ -1,6 +1,6 @@
 //! Reads one record of a capture into blocks.
 ghost use Rattle.std.specs.Prelude.{◌≡◌, ◌≢◌, ℕ, ◌+◌, ◌-◌, ◌<◌, ◌≤◌, ◌^◌, [], false, true, min, length};
-ghost use Rattle.std.specs.Prelude.{IfOk, OnOk, OnErr, Ok, Err, Some};
+ghost use Rattle.std.specs.Prelude.{IfOk, IfSome, OnOk, OnErr, Option, Ok, Err, None, Some, List, ⊤};
 ghost use Rattle.std.specs.VecDeque.{deque_capacity};
 ghost use Rattle.block_pool.specs.PoolState.{home, weighed};
 ghost use Rattle.skb.specs.SkbState.{buffer_bytes, weighed_in};
@@ -9,13 +9,12 @@ ghost use Rattle.off_io.specs.Told.{Told};
 ghost use Rattle.pcap_io.specs.declared.heads.Link.TheVariants.{Ethernet};
 ghost use Rattle.pcap_io.specs.Headers.{is_bad_original};
 ghost use Rattle.pcap_io.specs.declared.place.Place.{Place};
-ghost use Rattle.pcap_io.specs.Places.{IsReady};
 ghost use Rattle.pcap_io.specs.Reading.{GivesHead};
 ghost use Rattle.pcap_io.specs.Readers.{place_of, source_of, SameLoan};
 ghost use Rattle.gro.specs.Slots.{packet_of, count_of};
 ghost use Rattle.reading.specs.Laid.{IsLaid, IsRead, most_read, most_short};
 ghost use Rattle.reading.specs.Reading.{front_size, GivesKept, GivesPacket, GivesRecord, GoesOn, IsStopOf};
-ghost use Rattle.reading.specs.Reading.{HasOne, KeepsHead, OfAnswer, OfNew};
+ghost use Rattle.reading.specs.Reading.{HasOne, IsAt, KeepsHead, OfAnswer, OfNew, StandsAt};
 ghost use Rattle.offload_model.specs.Need.{need_of};
 ghost use Rattle.offload_model.specs.Captured.{IsCaptured};
 ghost use Rattle.reading.specs.Bodies.{HasRoom, IsBody, Puts, ReadsBody, Spends};
@@ -41,7 +40,7 @@ pub enum Stop {
     /// The blocks that the round would need.
     PoolEmpty { need: u32 },
     /// The blocks that the record needs aren't home and don't come. Its header was taken and is kept:
-    /// [`finish_record`] goes on behind it.
+    /// [`read_record`] goes on behind it.
     Lacking,
     ReadFault,
     NoMemory,
@@ -161,11 +160,37 @@ fn read_short<S: Source>(
     Ok(3)
 }
 
-/// Reads the body of a record whose header was taken, once as many blocks are home as it needs: what [`read_record`]
-/// says, over the whole record, of whatever bytes its header was taken. The answer says how many blocks it has with its
-/// spares.
+// The header of the next record: the one that was kept, which isn't any more, or the next one of the capture.
 #[inline(always)]
-pub fn finish_record<S: Source>(
+fn find_head<S: Source>(
+    reader: &mut CaptureReader<'_, S>,
+    kept: &mut Option<RecHead>,
+) -> Result<Option<RecHead>, InFault>
+    requires stands { (at : Place) × IsAt kept.old at (place_of reader.old) }
+    ensures same_source { SameLoan reader.old reader.new }
+    ensures tells { Told (S.left (source_of reader.old)) (S.left (source_of reader.new)) (λ _ _. ⊤) }
+    ensures given { (at : Place) → (before : Option (List ℕ))
+        → StandsAt kept.old at (place_of reader.old) before (S.left (source_of reader.old))
+        → Told before (S.left (source_of reader.new)) (GivesHead at result) }
+    ensures keeps { (at : Place) → IsAt kept.old at (place_of reader.old)
+        → IfOk result (λ found. IfSome found (KeepsHead at (place_of reader.new))) }
+    ensures none { kept.new ≡ None }
+    ensures later { S.faults (source_of reader.old) ≤ S.faults (source_of reader.new) }
+    ensures failed { result ≡ Err InFault.ReadFault → Rose (S.faults (source_of reader.old))
+        (S.faults (source_of reader.new)) }
+{
+    if let Some(head) = *kept {
+        *kept = None;
+        return Ok(Some(head));
+    }
+    reader.next_head()
+}
+
+// Reads the body of a record whose header was taken, once as many blocks are home as it needs: what [`read_record`]
+// says, over the whole record, of whatever bytes its header was taken. The answer says how many blocks it has with its
+// spares.
+#[inline(always)]
+fn finish_record<S: Source>(
     alloc: Global,
     pool: &mut Pool,
     hold: &mut VecDeque<Sole>,
@@ -241,9 +266,10 @@ pub fn finish_record<S: Source>(
 ///
 /// It is judged in this order: its header, whether the round then needs more blocks than there are, its body. Between
 /// them its blocks are home, or are brought. Where they don't come its body isn't read, which is `Lacking`: its header
-/// is written to `kept`, which no other answer touches, and [`finish_record`] goes on behind it. A record that isn't
-/// given leaves all blocks home that were or that came, and the packets as they were. One for which there was no memory
-/// was read whole (`whole`).
+/// is in `kept` then, and the next call goes on behind it, as if it had begun in front of it. So what is said of the
+/// record is said of the place `at` where it begins, and of what was left there. A record that isn't given leaves all
+/// blocks home that were or that came, and the packets as they were. One for which there was no memory was read whole
+/// (`whole`).
 #[inline(always)]
 pub fn read_record<S: Source, H: Supply>(
     alloc: Global,
@@ -258,7 +284,7 @@ pub fn read_record<S: Source, H: Supply>(
     mark: u32,
     packets: &mut Packets,
 ) -> Result<(u64, u32), Stop>
-    requires ready { IsReady (place_of reader.old) }
+    requires stands { (at : Place) × IsAt kept.old at (place_of reader.old) }
     requires front { length front.old ≡ front_size (place_of reader.old).link }
     requires empty { hold.old.items ≡ [] }
     requires capacity { 131 ≤ deque_capacity hold.old }
@@ -267,32 +293,38 @@ pub fn read_record<S: Source, H: Supply>(
     requires room { home spares.old + 2 ≤ spares.old.made }
     requires place { 1 ≤ packets.old.room }
     ensures same_source { SameLoan reader.old reader.new }
-    ensures given { OfAnswer result packets.old packets.new (λ r. Told (S.left (source_of reader.old))
-        (S.left (source_of reader.new)) (GivesRecord used pool.old.made (place_of reader.old) (place_of reader.new)
-        front.new r)) }
-    ensures next { OnOk result (GoesOn (place_of reader.old) (place_of reader.new)) }
+    ensures tells { Told (S.left (source_of reader.old)) (S.left (source_of reader.new)) (λ _ _. ⊤) }
+    ensures given { (at : Place) → (before : Option (List ℕ))
+        → StandsAt kept.old at (place_of reader.old) before (S.left (source_of reader.old))
+        → OfAnswer result packets.old packets.new (λ r. Told before (S.left (source_of reader.new))
+        (GivesRecord used pool.old.made at (place_of reader.new) front.new r)) }
+    ensures next { (at : Place) → IsAt kept.old at (place_of reader.old)
+        → OnOk result (GoesOn at (place_of reader.new)) }
     ensures front { length front.new ≡ length front.old }
     ensures one { OnOk result (HasOne packets.old packets.new) }
     ensures none { OnErr result (packets.new ≡ packets.old) }
+    ensures stands { result ≡ Err Stop.Lacking → (at : Place) → (before : Option (List ℕ))
+        → StandsAt kept.old at (place_of reader.old) before (S.left (source_of reader.old))
+        → StandsAt kept.new at (place_of reader.new) before (S.left (source_of reader.new)) }
     ensures kept { result ≡ Err Stop.Lacking → (head : RecHead) × (kept.new ≡ Some head)
-        × KeepsHead (place_of reader.old) (place_of reader.new) head
         × (home pool.new < need_of (head.captured - length front.old))
         × (used + need_of (head.captured - length front.old) ≤ pool.old.made)
-        × (pool.new.taken ≡ pool.old.taken)
-        × Told (S.left (source_of reader.old)) (S.left (source_of reader.new))
-        (GivesHead (place_of reader.old) (Ok (Some head))) }
-    ensures unkept { result ≢ Err Stop.Lacking → kept.new ≡ kept.old }
+        × (pool.new.taken ≡ pool.old.taken) }
+    ensures unkept { result ≢ Err Stop.Lacking → kept.new ≡ None }
     ensures whole { result ≡ Err Stop.NoMemory → (place_of reader.new).body ≡ 0 }
     ensures refused { result ≡ Err Stop.Lacking
         → min (H.refusals more.old + 1) (2 ^ 64 - 1) ≤ H.refusals more.new }
     ensures asked { H.refusals more.old ≤ H.refusals more.new }
     ensures room { packets.old.room ≤ packets.new.room + 1 }
-    ensures number { OnOk result (OfNew packets.old packets.new (λ p. p.number ≡ (place_of reader.old).number)) }
+    ensures number { (at : Place) → IsAt kept.old at (place_of reader.old)
+        → OnOk result (OfNew packets.old packets.new (λ p. p.number ≡ at.number)) }
     ensures original { OnOk result (OfNew packets.old packets.new (λ p. is_bad_original
         (place_of reader.old).link p.original ≡ false)) }
-    ensures offset { IfOk result (λ r. r.0 ≡ (place_of reader.old).offset) }
-    ensures behind { OnOk result (OfNew packets.old packets.new (λ p. (place_of reader.new).offset
-        ≡ (place_of reader.old).offset + 16 + (length front.new + length (buffer_bytes p.skb)))) }
+    ensures offset { (at : Place) → IsAt kept.old at (place_of reader.old)
+        → IfOk result (λ r. r.0 ≡ at.offset) }
+    ensures behind { (at : Place) → IsAt kept.old at (place_of reader.old)
+        → OnOk result (OfNew packets.old packets.new (λ p. (place_of reader.new).offset
+        ≡ at.offset + 16 + (length front.new + length (buffer_bytes p.skb)))) }
     ensures laid { OnOk result (OfNew packets.old packets.new (IsLaid mark)) }
     ensures read { OnOk result (OfNew packets.old packets.new IsRead) }
     ensures captured { OnOk result (OfNew packets.old packets.new (λ p. (place_of reader.old).link ≡ Ethernet
@@ -324,7 +356,7 @@ pub fn read_record<S: Source, H: Supply>(
 {
     let _ = pool.taken();
     let _ = pool.home();
-    let found = match reader.next_head() {
+    let found = match find_head(reader, kept) {
         Ok(found) => found,
         Err(fault) => return Err(stop_of(fault)),
     };

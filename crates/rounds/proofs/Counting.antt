@@ -1,44 +1,20 @@
 -- What a round that is read counts, step by step, over plain numbers.
-use Rattle.std.proofs.Common.{◌≡◌, ◌+◌, ◌-◌, ◌^◌, ◌<◌, ◌≤◌, ℕ, List, [], ◌∷◌, ◌++◌, length, length-append, min, ◌⊎◌, inl, inr, ap, subst, arith}
+use Rattle.std.proofs.Common.{◌≡◌, ◌+◌, ◌-◌, ◌^◌, ◌<◌, ◌≤◌, ℕ, List, [], ◌∷◌, ◌++◌, length, length-append, min, ◌⊎◌, inl, inr, ap, arith}
 use Rattle.block_pool.specs.PoolState.{PoolState, home, weighed}
 use Rattle.off_io.specs.Faults.{Rose}
-use Rattle.offload_model.specs.Need.{need_of}
 use Rattle.gro.specs.declared.slot.Slot.{Slot as Held}
 use Rattle.gro.specs.Slots.{weighed_slots}
 use Rattle.gro.proofs.Weights.{weighed_last}
 use Rattle.reading.proofs.Laying.{weighed_none}
 use Rattle.skb.specs.SkbState.{weighed_in}
 use Rattle.rounds.specs.RoundOf.{at_hand, Brought, Came, Takes}
-use Rattle.rounds.specs.RoundsState.{RoundState}
-use Rattle.rounds.specs.Weights.{weights_of}
 
 -- ---- its blocks are among those that were made
 
 pub fits_type : {n k m : ℕ} → n ≤ k → k ≡ m → m ≤ 65536 → n < 2 ^ 32
 fits_type a b c = omega arith
 
-pub fits_out : {old made : ℕ} (mid count used : ℕ) → mid + count ≡ old → old + used ≡ made → made ≤ 65536 → used + count < 2 ^ 32
-fits_out mid count used a b c = omega arith
-
-pub fits_bare : (used n made : ℕ) → used + need_of n ≤ made → used + need_of (n - 0) ≤ made
-fits_bare used n made fits = let e : n ≡ n - 0 = omega arith in subst (λ (k : ℕ). used + need_of k ≤ made) e fits
-
--- all are home or the round's, so no record lacks any
-pub all_home : {old made : ℕ} (new blocks mid count used : ℕ) → new + blocks + 0 ≡ mid + (used + count) + 0 → mid + count ≡ old → old + used ≡ made → new + blocks ≡ made
-all_home new blocks mid count used a b c = omega arith
-
-pub none_lacking : {new need made : ℕ} (blocks : ℕ) → new + blocks ≡ made → new < need → blocks + need ≤ made → ⊥
-none_lacking blocks a b c = omega arith
-
 -- ---- how many were taken
-
-pub takes_then : {made mid : ℕ} (now from to used count after : ℕ) → mid ≡ made → now ≡ min (from + count) (2 ^ 64 - 1) → from ≤ now → Takes mid now to (used + count) after → Takes made from to used after
-takes_then now from to used count after same taken least t = record {
-  within = omega (arith, t.within);
-  taken = omega (arith, t.taken, t.least.0, t.least.1);
-  least = (omega (arith, t.least.0), omega (arith, t.least.1));
-  most = omega (arith, t.most);
-}
 
 pub takes_last : {made mid : ℕ} (now from to before after : ℕ) → mid ≡ made → after ≤ made → before ≤ after → now ≡ min (from + (after - before)) (2 ^ 64 - 1) → from ≤ now → now + before ≤ from + after
     → now ≤ to → to + after ≤ now + mid → Takes made from to before after
@@ -79,36 +55,8 @@ came_one from to used count pool pool' spares spares' ps qs p e sum named asked 
 
 -- ---- what stays
 
-pub few_still : {k n budget : ℕ} → k ≡ n → n < budget → k ≤ budget
-few_still a b = omega arith
-
--- what lies at hand weighs the same
-pub hand_same : (pool pool' spares spares' : PoolState) (ps qs : List Held) (h : ℕ → ℕ) → qs ≡ ps → weighed h pool'.blocks ≡ weighed h pool.blocks → weighed h spares'.blocks ≡ weighed h spares.blocks
-    → at_hand pool' qs spares' h ≡ at_hand pool ps spares h
-hand_same pool pool' spares spares' ps qs h e a b = omega (arith, ap (weighed_slots h) e)
-
 pub rose_later : (before mid now : ℕ) → before ≤ mid → Rose mid now → Rose before now
 rose_later before mid now a b = omega arith
-
--- ---- what came home
-
--- the same blocks at hand, packets and spares together
-pub came_read : (from to : Brought) (old now : ℕ) (w : (ℕ → ℕ) → ℕ) (pool : PoolState) (round : RoundState) → Came from to old now w (λ h. weighed h pool.blocks + weighed_slots h round.packets + weighed h round.spares)
-    → Came from to old now w (λ h. weighed h pool.blocks + weights_of round h)
-came_read from to old now w pool round came = record {
-  sum = came.sum;
-  named = λ h. omega (arith, came.named h);
-  asked = came.asked;
-}
-
--- what was home and a round's goes on as these
-pub came_on : (from to : Brought) (old mid new before after : ℕ) (w v x p q : (ℕ → ℕ) → ℕ) → Came from to old mid w v → new + after ≡ mid + before → ((h : ℕ → ℕ) → x h + q h ≡ v h + p h)
-    → Came from to (old + before) (new + after) (λ h. w h + p h) (λ h. x h + q h)
-came_on from to old mid new before after w v x p q came sum named = record {
-  sum = omega (arith, came.sum, sum);
-  named = λ h. omega (arith, came.named h, named h);
-  asked = came.asked;
-}
 
 -- ---- one list behind another
 

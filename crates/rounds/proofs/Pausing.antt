@@ -1,14 +1,16 @@
--- A round that waits behind a header that is kept, and its rest.
-use Rattle.std.proofs.Common.{◌≡◌, ◌+◌, ◌-◌, ◌<◌, ◌≤◌, ℕ, List, [], ◌∷◌, ◌++◌, Bool, true, false, Option, Some, Ok, Err, length, length-append, map, refl, sym, ap, ◌∙◌, arith, subst}
+-- A round that is read, from wherever it began.
+use Rattle.std.proofs.Common.{◌≡◌, ◌≢◌, ◌+◌, ◌-◌, ◌≤◌, ℕ, List, [], ◌∷◌, ◌++◌, Bool, true, false, Option, None, Some, Ok, Err, length, length-append, map, refl, sym, ap, ◌∙◌, arith, subst, append_assoc, take, take-append-drop}
 use Rattle.std.proofs.lemmas.Bool.{false≢true}
 use Rattle.std.specs.List.{AllByRecursion}
+use Rattle.off_io.specs.Faults.{Rose}
 use Rattle.off_io.specs.Told.{Told}
-use Rattle.off_io.proofs.Telling.{Told-same, Told-then, Told-weaker}
+use Rattle.off_io.proofs.Telling.{Told-same, Told-then}
 use Rattle.pcap_io.specs.declared.heads.Link.TheVariants.{Ethernet}
 use Rattle.pcap_io.specs.declared.heads.RecHead.{RecHead}
 use Rattle.pcap_io.specs.declared.place.Place.{Place}
 use Rattle.pcap_io.specs.Places.{IsReady}
-use Rattle.pcap_io.specs.Reading.{GivesHead}
+use Rattle.pcap_io.specs.Capture.{Packet}
+use Rattle.pcap_io.specs.Reading.{Loses, TakesHead}
 use Rattle.block_pool.specs.PoolState.{PoolState, home, weighed}
 use Rattle.skb.specs.SkbState.{buffer_bytes}
 use Rattle.offload_model.specs.Captured.{IsCaptured}
@@ -18,23 +20,20 @@ use Rattle.gro.specs.Slots.{packet_of, count_of, counts_of, weighed_slots}
 use Rattle.reading.specs.declared.record.Stop.{Stop}
 use Rattle.reading.specs.declared.record.Stop.TheVariants as stops
 use Rattle.reading.specs.Laid.{AreRead, IsLaid, IsRead, LaidFrom}
-use Rattle.reading.proofs.Laying.{laid_at, weighed_none}
-use Rattle.reading.specs.Reading.{GivesKept, GoesOn, KeepsHead, Passes}
-use Rattle.rounds.specs.Ahead.{GivesBehind, Waits}
-use Rattle.rounds.specs.Filling.{Reached, FillsAhead, FillsBehind, FillsOn}
-use Rattle.rounds.specs.Fresh.{NumberedFrom}
-use Rattle.rounds.specs.Reading.{EndsAt, GivesRest, GivesRound, FillsRound, IfEnded, IsEndOf, IsHaltOf, NumbersOn, PassesOver, WaitsOver}
-use Rattle.rounds.specs.RoundOf.{at_hand, Brought, Came, IsRoundOf}
-use Rattle.rounds.specs.RoundsState.{PausedState as Paused, RoundState}
-use Rattle.rounds.specs.declared.round_reading.Halt.{Halt}
-use Rattle.rounds.specs.declared.round_reading.Halt.TheVariants.{Ended, Lacking}
-use Rattle.rounds.specs.declared.round.ReadAhead.TheVariants as aheads
+use Rattle.reading.proofs.Laying.{laid_at}
+use Rattle.reading.proofs.Standing.{at_link, stands_here}
+use Rattle.reading.specs.Reading.{GivesRecord, GoesOn, Opens, Passes, StandsAt}
+use Rattle.rounds.specs.Filling.{Fills, Reached, Stands}
+use Rattle.rounds.specs.Reading.{EndsAt, GivesRound, IfEnded, IsEndOf, IsHaltOf, PassesRound}
+use Rattle.rounds.specs.RoundOf.{at_hand, Brought, Came, IsBegun, IsRoundOf}
+use Rattle.rounds.specs.RoundsState.{ReadingState}
+use Rattle.rounds.specs.declared.round.Halt.{Halt}
+use Rattle.rounds.specs.declared.round.Halt.TheVariants.{Ended, Lacking}
 use Rattle.rounds.specs.declared.round.RoundEnd.{RoundEnd}
 use Rattle.rounds.specs.declared.round.RoundEnd.TheVariants as ends
-use Rattle.rounds.specs.declared.round.RoundRead.{RoundRead}
 use Rattle.rounds.proofs.Coming.{counts_last}
 use Rattle.rounds.proofs.Counting.{rose_later}
-use Rattle.rounds.proofs.Rounding.{ReadSoFar, captured_last, goes_over, loses_head, need_last, passes_none, precede_more, read_last, round_none, round_stop, whole_fills, whole_given, whole_goes, whole_numbered}
+use Rattle.rounds.proofs.Rounding.{captured_last, need_last, passes_none, precede_more, read_last, round_stop}
 use Rattle.rounds.proofs.Taking.{numbered_last}
 
 -- ---- why no more records are read
@@ -69,15 +68,6 @@ is_fault _ = false
 
 pub no_memory_fault : ends.NoMemory ≡ ends.ReadFault → ⊥
 no_memory_fault e = false≢true (ap is_fault e)
-
-given_up_full : ends.GivenUp ≡ ends.Full → ⊥
-given_up_full e = false≢true (ap is_full e)
-
-given_up_fault : ends.GivenUp ≡ ends.ReadFault → ⊥
-given_up_fault e = false≢true (ap is_fault e)
-
-pub no_memory_goes : ends.NoMemory ≡ ends.GivenUp → ⊥
-no_memory_goes e = cc
 
 pub lacking_full : Lacking ≡ Ended ends.Full → ⊥
 lacking_full e = false≢true (sym (ap is_lacking e))
@@ -124,21 +114,6 @@ halt_fault stops.Lacking halt is fault = absurd (ended_lacking ends.ReadFault ha
 pub full_fault : Ended ends.Full ≡ Ended ends.ReadFault → ⊥
 full_fault e = not_fault ends.Full (Ended ends.Full) refl refl e
 
--- the same of what is no halt but an end
-ended_by : (stop : Stop) (end : RoundEnd) → IsEndOf stop end → IsHaltOf stop (Ended end)
-ended_by stops.End end is = ap Ended is
-ended_by (stops.Malformed fault) end is = ap Ended is
-ended_by (stops.PoolEmpty need) end is = ap Ended is
-ended_by stops.ReadFault end is = ap Ended is
-ended_by stops.NoMemory end is = ap Ended is
-ended_by stops.Lacking end is = absurd is
-
-pub end_full : (stop : Stop) (end : RoundEnd) → IsEndOf stop end → end ≡ ends.Full → ⊥
-end_full stop end is full = halt_full stop (Ended end) (ended_by stop end is) (ap Ended full)
-
-pub end_fault : (stop : Stop) (end : RoundEnd) → IsEndOf stop end → end ≡ ends.ReadFault → stop ≡ stops.ReadFault
-end_fault stop end is fault = halt_fault stop (Ended end) (ended_by stop end is) (ap Ended fault)
-
 -- where the reader stands then
 pub end_stands : (stop : Stop) (end : RoundEnd) (place : Place) → IsEndOf stop end → (stop ≡ stops.NoMemory → place.body ≡ 0) → EndsAt end place
 end_stands stops.End end place is whole = rw is tt
@@ -147,12 +122,6 @@ end_stands (stops.PoolEmpty need) end place is whole = rw is tt
 end_stands stops.ReadFault end place is whole = rw is tt
 end_stands stops.NoMemory end place is whole = rw is (whole refl)
 end_stands stops.Lacking end place is whole = absurd is
-
-pub never_given_up : (end : RoundEnd) (place : Place) → EndsAt end place → end ≡ ends.GivenUp → ⊥
-never_given_up end place stands up = subst (λ (e : RoundEnd). EndsAt e place) up stands
-
-pub memory_between : (end : RoundEnd) (place : Place) → EndsAt end place → end ≡ ends.NoMemory → place.body ≡ 0
-memory_between end place stands short = subst (λ (e : RoundEnd). EndsAt e place) short stands
 
 -- ---- a round that stays
 
@@ -177,15 +146,6 @@ came_then a b c old mid new w x y p q = record {
   asked = omega (arith, p.asked, q.asked);
 }
 
--- what came home where a round had no packet before
-pub came_whole : (from to : Brought) (old new : ℕ) (pool spares : PoolState) (ps : List Held) (weighs : (ℕ → ℕ) → ℕ) → ps ≡ [] → home spares ≡ 0
-    → Came from to (old + 0) new (at_hand pool ps spares) weighs → Came from to old new (λ h. weighed h pool.blocks) weighs
-came_whole from to old new pool spares ps weighs none bare came = record {
-  sum = omega (arith, came.sum);
-  named = λ h. omega (arith, came.named h, ap (weighed_slots h) none, weighed_none h spares.blocks bare);
-  asked = came.asked;
-}
-
 -- ---- a round with one packet more
 
 pub round_last : (ps qs : List Held) (p : Held) (spares spares' used used' mark : ℕ) → qs ≡ ps ++ p ∷ [] → IsRoundOf ps spares used → mark ≡ used - spares → spares' ≡ spares + 2
@@ -199,186 +159,117 @@ round_last ps qs p spares spares' used used' mark e r at more count laid read ca
   need = omega (arith, ap (λ (xs : List Held). round_need (map packet_of xs)) e, need_last ps p, r.need, count, need);
 }
 
--- ---- a round that waits behind a header
+-- ---- a round that stands somewhere
 
-pub waits_over : (a b c : Option (List ℕ)) (old mid new : Place) (first packets : List Held) (head : RecHead) → ReadSoFar a b old mid first packets → KeepsHead mid new head
-    → Told b c (GivesHead mid (Ok (Some head))) → WaitsOver old new a c first packets head
-waits_over a b c old mid new first packets head so_far keeps told = record {
-  at = mid;
-  goes = goes_over a b old mid first packets so_far;
-  keeps = keeps;
-  number = so_far.number;
-  given = Told-then a b c (PassesOver old mid first packets) (GivesHead mid (Ok (Some head)))
-      (λ bytes left. (opened : List ℕ) × (PassesOver old mid first packets bytes opened × GivesHead mid (Ok (Some head)) opened left)) (λ bytes rest left over last. (rest, (over, last)))
-      so_far.told told;
-}
-
--- a round that waits so, and that is all of it
-waits_passes : (at old : Place) (first packets : List Held) (bytes opened : List ℕ) → first ≡ [] → PassesOver old at first packets bytes opened → Passes old at (map packet_of packets) bytes opened
-waits_passes at old first packets bytes opened none over = subst (λ (xs : List Held). PassesOver old at xs packets bytes opened) none over old bytes (passes_none old bytes)
-
-pub waits_whole : (budget : ℕ) (old new : Place) (a b : Option (List ℕ)) (first : List Held) (p : Paused) → IsReady old → first ≡ [] → length p.round.packets < budget
-    → NumbersOn old.number first p.round.packets → WaitsOver old new a b first p.round.packets p.head → Waits budget old new a b p
-waits_whole budget old new a b first p ready none fewer numbers w = record {
-  at = w.at;
-  goes = whole_goes old w.at first p.round.packets ready none w.goes;
-  keeps = w.keeps;
-  fewer = fewer;
-  numbers = (old.number, whole_numbered old.number first p.round.packets none numbers, omega (arith, w.number, ap (λ (xs : List Held). length xs) none));
-  given = Told-weaker a b (λ bytes left. (opened : List ℕ) × (PassesOver old w.at first p.round.packets bytes opened × GivesHead w.at (Ok (Some p.head)) opened left))
-      (λ bytes left. (opened : List ℕ) × (Passes old w.at (map packet_of p.round.packets) bytes opened × GivesHead w.at (Ok (Some p.head)) opened left))
-      (λ bytes left x. (x.0, (waits_passes w.at old first p.round.packets bytes x.0 none x.1.0, x.1.1))) w.given;
-}
-
--- ---- what a round comes to that had no packet before
-
--- none is read, for want of memory
-pub unread_ahead : (blocks budget : ℕ) (from : Reached) (read : RoundRead) → read.round.packets ≡ [] → read.round.blocks ≡ 0 → read.end ≡ ends.NoMemory
-    → FillsAhead blocks budget from from (aheads.Read read)
-unread_ahead blocks budget from read none empty end =
-    let r = round_none read.round.packets 0 read.round.blocks none refl empty in
-    record {
-      given = subst (λ (e : RoundEnd). Told from.left from.left (GivesRound blocks from.place from.place read.round.packets e)) (sym end)
-          (Told-same from.left (GivesRound blocks from.place from.place read.round.packets ends.NoMemory) (λ bytes. ([], refl)));
-      reads = record {
-        size = omega (arith, ap (λ (xs : List Held). length xs) none);
-        fewer = λ not_full memory. absurd (memory end);
-        full = λ full. absurd (no_memory_full (sym end ∙ full));
-        captured = r.captured;
-        numbers = subst (NumberedFrom from.place.number) (sym none) tt;
-        need = r.need;
-      };
-      waits = tt;
+-- it was begun where the reader is
+pub stands_begun : (budget : ℕ) (here : Reached) (round : ReadingState) → IsReady here.place → IsBegun budget round → Stands here here.place here round.head round.round.packets
+stands_begun budget here round ready begun =
+    subst (λ (k : Option RecHead). Stands here here.place here k round.round.packets) (sym begun.unkept) (subst (λ (xs : List Held). Stands here here.place here None xs) (sym begun.none) (record {
+      at = here.place;
+      before = here.left;
+      stands = stands_here here.place here.left ready;
+      told = Told-same here.left (Passes here.place here.place []) (passes_none here.place);
+      goes = record { full = refl; file = refl; link = refl; number = omega arith; ready = ready };
+      numbers = tt;
       later = omega arith;
-      failed = λ fault. absurd (no_memory_fault (sym end ∙ fault));
-    }
+    }))
 
--- beside work it ends, or it is paused
-pub ends_ahead : (blocks budget : ℕ) (from to : Reached) (first : List Held) (round : RoundState) (halt : Halt) (end : RoundEnd) → halt ≡ Ended end → IsReady from.place → first ≡ []
-    → FillsOn blocks budget from to first round.packets halt → AllByRecursion IsCaptured (map packet_of round.packets) → round.blocks ≡ round_need (map packet_of round.packets)
-    → FillsAhead blocks budget from to (aheads.Read (record { round = round; end = end }))
-ends_ahead blocks budget from to first round halt end is ready none f captured need = record {
-  given = whole_given from.left to.left from.place to.place blocks first round.packets end none
-      (subst (λ (h : Halt). IfEnded h (λ (e : RoundEnd). Told from.left to.left (GivesRest blocks from.place to.place first round.packets e))) is f.given);
-  reads = record {
-    size = f.size;
-    fewer = λ not_full memory. f.fewer (λ full. not_full (ap end_in (sym is ∙ full)));
-    full = λ full. whole_fills from.place to.place first round.packets budget ready none (f.full (is ∙ ap Ended full));
-    captured = captured;
-    numbers = whole_numbered from.place.number first round.packets none f.numbers;
-    need = need;
+-- its links are the same throughout
+pub stands_link : (start : Reached) (from : Place) (now : Reached) (kept : Option RecHead) (ps : List Held) → Stands start from now kept ps → now.place.link ≡ from.link
+stands_link start from now kept ps s = at_link kept s.at now.place s.stands.is ∙ s.goes.link
+
+-- with a header that was taken some bytes are gone
+pub loses_head : (at : Place) (packets : List Packet) (old : Place) (bytes opened left : List ℕ) (head : RecHead) → Passes old at packets bytes opened → TakesHead at opened left head → Loses bytes left
+loses_head at packets old bytes opened left head passes takes =
+    let split : opened ≡ take 16 opened ++ left = sym (take-append-drop 16 opened) ∙ ap (λ (l : List ℕ). take 16 opened ++ l) (sym takes.rest) in
+    (passes.0 ++ take 16 opened, passes.1 ∙ ap (λ (l : List ℕ). passes.0 ++ l) split ∙ sym (append_assoc passes.0 (take 16 opened) left))
+
+-- the bytes that are gone are some
+pub stands_lost : (start : Reached) (from : Place) (now : Reached) (kept : Option RecHead) (ps : List Held) → Stands start from now kept ps → Told start.left now.left Loses
+stands_lost start from now None ps s =
+    Told-then start.left s.before now.left (Passes start.place s.at (map packet_of ps)) (Opens None s.at) Loses
+    (λ bytes opened left passes same. (passes.0, subst (λ (l : List ℕ). bytes ≡ passes.0 ++ l) same passes.1)) s.told s.stands.told
+stands_lost start from now (Some head) ps s =
+    Told-then start.left s.before now.left (Passes start.place s.at (map packet_of ps)) (Opens (Some head) s.at) Loses
+    (λ bytes opened left passes takes. loses_head s.at (map packet_of ps) start.place bytes opened left head passes takes) s.told s.stands.told
+
+-- one record more was read
+pub stands_next : (start : Reached) (from : Place) (now next : Reached) (kept kept' : Option RecHead) (ps qs : List Held) (p : Held) (used blocks : ℕ) → qs ≡ ps ++ p ∷ [] → kept' ≡ None
+    → (s : Stands start from now kept ps) → Told s.before next.left (GivesRecord used blocks s.at next.place [] (Ok p)) → GoesOn s.at next.place → p.number ≡ s.at.number → now.faults ≤ next.faults
+    → Stands start from next kept' qs
+stands_next start from now next kept kept' ps qs p used blocks e none s told goes is later =
+    subst (λ (k : Option RecHead). Stands start from next k qs) (sym none) (subst (λ (xs : List Held). Stands start from next None xs) (sym e) (record {
+      at = next.place;
+      before = next.left;
+      stands = stands_here next.place next.left goes.ready;
+      told = Told-then start.left s.before next.left (Passes start.place s.at (map packet_of ps)) (GivesRecord used blocks s.at next.place [] (Ok p))
+          (Passes start.place next.place (map packet_of (ps ++ p ∷ []))) (λ bytes rest left over one. precede_more start.place s.at next.place used blocks ps p bytes rest left over one) s.told told;
+      goes = record {
+        full = refl;
+        file = goes.file ∙ s.goes.file;
+        link = goes.link ∙ s.goes.link;
+        number = omega (arith, goes.number, s.goes.number, length-append ps (p ∷ []));
+        ready = goes.ready;
+      };
+      numbers = numbered_last from.number ps p s.numbers (is ∙ s.goes.number);
+      later = omega (arith, s.later, later);
+    }))
+
+-- none was, for this stop
+pub fills_stop : (blocks budget : ℕ) (start : Reached) (from : Place) (now next : Reached) (kept kept' : Option RecHead) (ps : List Held) (used : ℕ) (stop : Stop) (halt : Halt)
+    → IsHaltOf stop halt → from.link ≡ Ethernet → used ≤ blocks → used ≡ round_need (map packet_of ps)
+    → (s : Stands start from now kept ps) → Told s.before next.left (GivesRecord used blocks s.at next.place [] (Err stop))
+    → (stop ≡ stops.Lacking → StandsAt kept' s.at next.place s.before next.left) → now.faults ≤ next.faults → (stop ≡ stops.ReadFault → Rose now.faults next.faults)
+    → Fills blocks budget start from next kept' ps halt
+fills_stop blocks budget start from now next kept kept' ps used stop halt is ethernet few need s told still later failed = record {
+  given = halt_ended (λ (end : RoundEnd). Told start.left next.left (GivesRound blocks start.place next.place ps end)) stop halt is
+      (λ end ends. Told-then start.left s.before next.left (Passes start.place s.at (map packet_of ps)) (GivesRecord used blocks s.at next.place [] (Err stop))
+      (GivesRound blocks start.place next.place ps end)
+      (λ bytes rest left over last. round_stop start.place s.at next.place used blocks ps stop end bytes rest left (s.goes.link ∙ ethernet) few need ends over last) s.told told);
+  full = λ full. absurd (halt_full stop halt is full);
+  waits = λ lacks. record {
+    at = s.at;
+    before = s.before;
+    stands = still (halt_lacking stop halt is lacks);
+    told = s.told;
+    goes = s.goes;
+    numbers = s.numbers;
+    later = omega (arith, s.later, later);
   };
-  waits = tt;
-  later = f.later;
-  failed = λ fault. f.failed (is ∙ ap Ended fault);
+  numbers = s.numbers;
+  later = omega (arith, s.later, later);
+  failed = λ fault. rose_later _ _ _ s.later (failed (halt_fault stop halt is fault));
 }
 
-pub waits_ahead : (blocks budget : ℕ) (from to : Reached) (first : List Held) (p : Paused) (halt : Halt) → halt ≡ Lacking → IsReady from.place → first ≡ []
-    → FillsOn blocks budget from to first p.round.packets halt → AllByRecursion IsCaptured (map packet_of p.round.packets) → p.round.blocks ≡ round_need (map packet_of p.round.packets)
-    → WaitsOver from.place to.place from.left to.left first p.round.packets p.head → FillsAhead blocks budget from to (aheads.Paused p)
-waits_ahead blocks budget from to first p halt is ready none f captured need w = record {
-  given = tt;
-  reads = record {
-    size = f.size;
-    fewer = tt;
-    full = tt;
-    captured = captured;
-    numbers = whole_numbered from.place.number first p.round.packets none f.numbers;
-    need = need;
-  };
-  waits = waits_whole budget from.place to.place from.left to.left first p ready none (f.fewer (λ full. lacking_full (sym is ∙ full))) f.numbers w;
-  later = f.later;
-  failed = tt;
-}
-
--- ---- the rest of a round, behind a header that was kept
-
--- its record isn't given
-pub behind_stop : (a b : Option (List ℕ)) (at new : Place) (used blocks : ℕ) (head : RecHead) (first : List Held) (stop : Stop) (end : RoundEnd) → at.link ≡ Ethernet → used ≤ blocks
-    → used ≡ round_need (map packet_of first) → IsEndOf stop end → Told a b (GivesKept used blocks at new head [] (Err stop)) → Told a b (GivesBehind blocks at new head first first end)
-behind_stop a b at new used blocks head first stop end ethernet few u is told =
-    Told-weaker a b (GivesKept used blocks at new head [] (Err stop)) (GivesBehind blocks at new head first first end)
-    (λ bytes left kept. λ from before opened passes takes. round_stop from at new used blocks first stop end before opened left ethernet few u is passes (kept opened takes)) told
-
--- it is given, and more are read
-pub behind_more : (a b c : Option (List ℕ)) (at mid new : Place) (used blocks : ℕ) (head : RecHead) (first qs round : List Held) (p : Held) (end : RoundEnd) → qs ≡ first ++ p ∷ []
-    → Told a b (GivesKept used blocks at mid head [] (Ok p)) → Told b c (GivesRest blocks mid new qs round end) → Told a c (GivesBehind blocks at new head first round end)
-behind_more a b c at mid new used blocks head first qs round p end e first_told told =
-    Told-then a b c (GivesKept used blocks at mid head [] (Ok p)) (GivesRest blocks mid new (first ++ p ∷ []) round end) (GivesBehind blocks at new head first round end)
-    (λ bytes rest left kept gives. λ from before opened passes takes. gives from before (precede_more from at mid used blocks first p before opened rest passes (kept opened takes))) first_told
-    (subst (λ (xs : List Held). Told b c (GivesRest blocks mid new xs round end)) e told)
-
--- and so the whole round, where its first packets were read from there on
-pub behind_whole : (a b c : Option (List ℕ)) (blocks budget : ℕ) (old mid new : Place) (p : Paused) (round : List Held) (end : RoundEnd) → (w : Waits budget old mid a b p)
-    → Told b c (GivesBehind blocks w.at new p.head p.round.packets round end) → Told a c (GivesRound blocks old new round end)
-behind_whole a b c blocks budget old mid new p round end w told =
-    Told-then a b c (λ bytes left. (opened : List ℕ) × (Passes old w.at (map packet_of p.round.packets) bytes opened × GivesHead w.at (Ok (Some p.head)) opened left))
-    (GivesBehind blocks w.at new p.head p.round.packets round end) (GivesRound blocks old new round end) (λ bytes rest left waits behind. behind old bytes waits.0 waits.1.0 waits.1.1) w.given told
-
--- a round that was paused and its rest are one that wasn't
-pub rest_ahead : (blocks budget : ℕ) (from mid to : Reached) (p : Paused) (read : RoundRead) → Waits budget from.place mid.place from.left mid.left p → NumberedFrom from.place.number p.round.packets
-    → from.faults ≤ mid.faults → FillsBehind blocks budget mid to p.head p.round.packets read.round.packets read.end → AllByRecursion IsCaptured (map packet_of read.round.packets)
-    → read.round.blocks ≡ round_need (map packet_of read.round.packets) → FillsAhead blocks budget from to (aheads.Read read)
-rest_ahead blocks budget from mid to p read w numbers later f captured need = record {
-  given = behind_whole from.left mid.left to.left blocks budget from.place mid.place to.place p read.round.packets read.end w (f.given w.at w.keeps);
-  reads = record {
-    size = f.size;
-    fewer = λ not_full memory. f.fewer not_full;
-    full = λ full. f.full full w.at w.keeps from.place w.goes;
-    captured = captured;
-    numbers = f.numbers w.at w.keeps from.place.number numbers (sym w.goes.number);
-    need = need;
-  };
-  waits = tt;
-  later = omega (arith, later, f.later);
-  failed = λ fault. rose_later _ _ _ later (f.failed fault);
-}
-
--- none is read: the header is gone
-pub behind_unread : (a : Option (List ℕ)) (at new : Place) (blocks : ℕ) (head : RecHead) (first : List Held) → Told a a (GivesBehind blocks at new head first first ends.NoMemory)
-behind_unread a at new blocks head first =
-    Told-same a (GivesBehind blocks at new head first first ends.NoMemory) (λ bytes. λ from before opened passes takes. loses_head at (map packet_of first) from before opened bytes head passes takes)
-
--- so no packet is more than there were
-pub unread_behind : (blocks budget : ℕ) (from : Reached) (head : RecHead) (first round : List Held) → round ≡ first → length first < budget
-    → FillsBehind blocks budget from from head first round ends.NoMemory
-unread_behind blocks budget from head first round same fewer = record {
-  given = λ at keeps.
-      subst (λ (xs : List Held). Told from.left from.left (GivesBehind blocks at from.place head first xs ends.NoMemory)) (sym same) (behind_unread from.left at from.place blocks head first);
-  size = omega (arith, ap (λ (xs : List Held). length xs) same, fewer);
-  fewer = λ not_full. omega (arith, ap (λ (xs : List Held). length xs) same, fewer);
-  full = λ full. absurd (no_memory_full full);
-  numbers = λ at keeps. λ k run is. subst (NumberedFrom k) (sym same) run;
-  later = omega arith;
-  failed = λ fault. absurd (no_memory_fault fault);
-}
-
--- nor is any of a round that is given up
-pub given_up_behind : (blocks budget : ℕ) (from : Reached) (head : RecHead) (first round : List Held) → round ≡ first → length first < budget
-    → FillsBehind blocks budget from from head first round ends.GivenUp
-given_up_behind blocks budget from head first round same fewer =
-    let f = unread_behind blocks budget from head first round same fewer in
+-- it has as many packets as it may have
+pub fills_full : (blocks budget : ℕ) (start : Reached) (from : Place) (now : Reached) (kept : Option RecHead) (ps : List Held) → kept ≡ None → length ps ≡ budget → Stands start from now kept ps
+    → Fills blocks budget start from now kept ps (Ended ends.Full)
+fills_full blocks budget start from now kept ps none full stands =
+    let s : Stands start from now None ps = subst (λ (k : Option RecHead). Stands start from now k ps) none stands in
+    let here = sym s.stands.is.0 in
     record {
-      given = f.given;
-      size = f.size;
-      fewer = λ not_full. f.fewer no_memory_full;
-      full = λ full. absurd (given_up_full full);
-      numbers = f.numbers;
-      later = f.later;
-      failed = λ fault. absurd (given_up_fault fault);
+      given = Told-then start.left s.before now.left (Passes start.place s.at (map packet_of ps)) (Opens None s.at) (Passes start.place now.place (map packet_of ps))
+          (λ bytes opened left passes same. subst (λ (l : List ℕ). Passes start.place now.place (map packet_of ps) bytes l) same
+          (subst (λ (p : Place). Passes start.place p (map packet_of ps) bytes opened) here passes)) s.told s.stands.told;
+      full = λ is. subst (λ (p : Place). PassesRound from p ps budget) here (subst (PassesRound from s.at ps) full s.goes);
+      waits = λ lacks. absurd (lacking_full (sym lacks));
+      numbers = s.numbers;
+      later = s.later;
+      failed = λ fault. absurd (full_fault fault);
     }
 
-pub fills_behind : (at mid new : Place) (first qs round : List Held) (p : Held) (budget : ℕ) → qs ≡ first ++ p ∷ [] → GoesOn at mid → FillsRound mid new qs round budget
-    → FillsRound at new first round budget
-fills_behind at mid new first qs round p budget e goes fills = λ from began. fills from (record {
-  full = refl;
-  file = goes.file ∙ began.file;
-  link = goes.link ∙ began.link;
-  number = omega (arith, goes.number, began.number, ap (λ (xs : List Held). length xs) e, length-append first (p ∷ []));
-  ready = goes.ready;
-})
+-- it has this end, and these are its packets
+pub fills_ended : {blocks blocks' budget budget' : ℕ} (start : Reached) (from : Place) (now : Reached) {kept : Option RecHead} (ps qs : List Held) (halt : Halt) (end : RoundEnd) → blocks ≡ blocks' → budget ≡ budget'
+    → halt ≡ Ended end → qs ≡ ps → Fills blocks budget start from now kept ps halt → Fills blocks' budget' start from now kept qs (Ended end)
+fills_ended {blocks = blocks} {blocks' = blocks'} {budget = budget} {budget' = budget'} start from now {kept = kept} ps qs halt end same few is e fills =
+    subst (λ (k : ℕ). Fills k budget' start from now kept qs (Ended end)) same (subst (λ (k : ℕ). Fills blocks k start from now kept qs (Ended end)) few
+    (subst (λ (h : Halt). Fills blocks budget start from now kept qs h) is (subst (λ (xs : List Held). Fills blocks budget start from now kept xs halt) (sym e) fills)))
 
-pub numbers_behind : (n m : ℕ) (first qs round : List Held) (p : Held) → qs ≡ first ++ p ∷ [] → p.number ≡ n → m ≡ n + 1 → NumbersOn m qs round → NumbersOn n first round
-numbers_behind n m first qs round p e is next on = λ k from run.
-    on k (subst (NumberedFrom k) (sym e) (numbered_last k first p from (omega (arith, is, run))))
-    (omega (arith, run, next, ap (λ (xs : List Held). length xs) e, length-append first (p ∷ [])))
+-- it lacks blocks where it has no end
+pub lacking_from : (halt : Halt) → ((end : RoundEnd) → halt ≡ Ended end → ⊥) → halt ≡ Lacking
+lacking_from (Ended end) h = absurd (h end refl)
+lacking_from Lacking h = refl
+
+-- a record that was read is no stop
+pub no_stop : {X : Type 0} (x : X) (stop : Stop) → Ok x ≢ Err stop
+no_stop x stop is = cc

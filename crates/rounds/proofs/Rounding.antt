@@ -1,17 +1,13 @@
 -- A round that is being read, and one that is given up.
-use Rattle.std.proofs.Common.{◌≡◌, ◌+◌, ◌-◌, ◌≤◌, ℕ, List, [], ◌∷◌, ◌++◌, length, refl, sym, ap, ◌∙◌, arith, Option, Ok, Err, subst, map, append_assoc, append-nil, length-append, take, take-append-drop}
+use Rattle.std.proofs.Common.{◌≡◌, ◌+◌, ◌-◌, ◌≤◌, ℕ, List, [], ◌∷◌, ◌++◌, length, refl, sym, ap, ◌∙◌, arith, Ok, Err, subst, map, append_assoc, append-nil}
 use Rattle.std.proofs.lemmas.List.{map-append}
 use Rattle.std.specs.List.{AllByRecursion}
-use Rattle.off_io.specs.Told.{Told}
-use Rattle.off_io.proofs.Telling.{Told-then, Told-same, Told-weaker}
 use Rattle.pcap_io.specs.declared.heads.Link.TheVariants.{Ethernet}
-use Rattle.pcap_io.specs.declared.heads.RecHead.{RecHead}
 use Rattle.pcap_io.specs.declared.place.Place.{Place}
 use Rattle.pcap_io.specs.Capture.{Packet, Found}
 use Rattle.pcap_io.specs.Laws.{frame_length}
 use Rattle.pcap_io.specs.Lengths.{lengths_at}
-use Rattle.pcap_io.specs.Places.{IsReady, found_at}
-use Rattle.pcap_io.specs.Reading.{TakesHead, Loses}
+use Rattle.pcap_io.specs.Places.{found_at}
 use Rattle.frags.specs.Account.{Tests, of_outcomes, receipts_held, soles_home}
 use Rattle.frags.specs.OutcomesState.{OutcomesState, IsBare}
 use Rattle.skb.specs.SkbState.{buffer_bytes}
@@ -20,31 +16,12 @@ use Rattle.offload_model.specs.Captured.{IsCaptured}
 use Rattle.gro.specs.declared.slot.Slot.{Slot as Held}
 use Rattle.gro.specs.Slots.{packet_of}
 use Rattle.reading.specs.Laid.{IsRead}
-use Rattle.rounds.specs.Fresh.{NumberedFrom}
-use Rattle.reading.specs.Reading.{front_size, in_front, Passes, HoldsNone, judged_at, GivesRecord, GoesOn, NeedsMore}
+use Rattle.reading.specs.Reading.{front_size, in_front, Passes, HoldsNone, judged_at, GivesRecord, NeedsMore}
 use Rattle.rounds.specs.RoundOf.{IsRoundOf}
-use Rattle.rounds.specs.Reading.{GivesRound, GivesRest, PassesOver, PassesRound, GoesOver, FillsRound, NumbersOn, Holds, Exceeds, IsEndOf}
+use Rattle.rounds.specs.Reading.{GivesRound, Holds, Exceeds, IsEndOf}
 use Rattle.reading.specs.declared.record.Stop.{Stop}
 use Rattle.reading.specs.declared.record.Stop.TheVariants as stops
 use Rattle.rounds.specs.declared.round.RoundEnd.{RoundEnd}
-use Rattle.rounds.proofs.Taking.{numbered_last}
-
--- behind the first packets these stand before what is still to be read
-pub record ReadSoFar (before now : Option (List ℕ)) (old new : Place) (first packets : List Held) : Type 0 where
-  pub told : Told before now (PassesOver old new first packets)
-  pub file : new.file ≡ old.file
-  pub link : new.link ≡ old.link
-  pub number : new.number + length first ≡ old.number + length packets
-  pub ready : IsReady new
-
-pub so_far_none : (a : Option (List ℕ)) (place : Place) (first : List Held) → IsReady place → ReadSoFar a a place place first first
-so_far_none a place first ready = record {
-  told = Told-same a (PassesOver place place first first) (λ bytes from before passes. passes);
-  file = refl;
-  link = refl;
-  number = refl;
-  ready = ready;
-}
 
 -- packets, and then more of them
 passes_then : (old mid new : Place) (ps qs : List Packet) (bytes rest left : List ℕ) → Passes old mid ps bytes rest → Passes mid new qs rest left → Passes old new (ps ++ qs) bytes left
@@ -69,17 +46,6 @@ pub precede_more : (old mid new : Place) (used blocks : ℕ) (packets : List Hel
 precede_more old mid new used blocks packets p bytes rest left so_far one =
     subst (λ (qs : List Packet). Passes old new qs bytes left) (sym (map-append packet_of packets (p ∷ [])))
     (passes_then old mid new (map packet_of packets) (packet_of p ∷ []) bytes rest left so_far one)
-
-pub so_far_more : (a b c : Option (List ℕ)) (old mid new : Place) (used blocks : ℕ) (first packets : List Held) (p : Held)
-    → ReadSoFar a b old mid first packets → Told b c (GivesRecord used blocks mid new [] (Ok p)) → GoesOn mid new → ReadSoFar a c old new first (packets ++ p ∷ [])
-so_far_more a b c old mid new used blocks first packets p so_far told goes = record {
-  told = Told-then a b c (PassesOver old mid first packets) (GivesRecord used blocks mid new [] (Ok p)) (PassesOver old new first (packets ++ p ∷ []))
-      (λ bytes rest left over one. λ from before passes. precede_more from mid new used blocks packets p before rest left (over from before passes) one) so_far.told told;
-  file = goes.file ∙ so_far.file;
-  link = goes.link ∙ so_far.link;
-  number = omega (arith, goes.number, so_far.number, length-append packets (p ∷ []));
-  ready = goes.ready;
-}
 
 -- nothing stands in front of a frame
 pub no_front : (xs : List ℕ) → length xs ≡ 0 → xs ≡ []
@@ -161,12 +127,6 @@ exceeds_so_far old mid used blocks need packets bytes rest left ethernet u befor
       ),
     )
 
--- with a header that was taken some bytes are gone
-pub loses_head : (at : Place) (packets : List Packet) (old : Place) (bytes opened left : List ℕ) (head : RecHead) → Passes old at packets bytes opened → TakesHead at opened left head → Loses bytes left
-loses_head at packets old bytes opened left head passes takes =
-    let split : opened ≡ take 16 opened ++ left = sym (take-append-drop 16 opened) ∙ ap (λ (l : List ℕ). take 16 opened ++ l) (sym takes.rest) in
-    (passes.0 ++ take 16 opened, passes.1 ∙ ap (λ (l : List ℕ). passes.0 ++ l) split ∙ sym (append_assoc passes.0 (take 16 opened) left))
-
 pub round_stop : (old mid new : Place) (used blocks : ℕ) (packets : List Held) (stop : Stop) (end : RoundEnd) (bytes rest left : List ℕ) → mid.link ≡ Ethernet → used ≤ blocks
     → used ≡ round_need (map packet_of packets) → IsEndOf stop end
     → Passes old mid (map packet_of packets) bytes rest → GivesRecord used blocks mid new [] (Err stop) rest left → GivesRound blocks old new packets end bytes left
@@ -191,53 +151,9 @@ round_stop old mid new used blocks packets stops.Lacking end bytes rest left eth
 round_stop old mid new used blocks packets stops.NoMemory end bytes rest left ethernet few u is before last =
     rw is (before.0 ++ last.0, before.1 ∙ ap (λ (l : List ℕ). before.0 ++ l) last.1 ∙ sym (append_assoc before.0 last.0 left))
 
-pub round_stop_given : (a b c : Option (List ℕ)) (old mid new : Place) (used blocks : ℕ) (first packets : List Held) (stop : Stop) (end : RoundEnd) → mid.link ≡ Ethernet → used ≤ blocks
-    → used ≡ round_need (map packet_of packets) → IsEndOf stop end
-    → Told a b (PassesOver old mid first packets) → Told b c (GivesRecord used blocks mid new [] (Err stop)) → Told a c (GivesRest blocks old new first packets end)
-round_stop_given a b c old mid new used blocks first packets stop end ethernet few u is so_far last =
-    Told-then a b c (PassesOver old mid first packets) (GivesRecord used blocks mid new [] (Err stop)) (GivesRest blocks old new first packets end)
-    (λ bytes rest left over l. λ from before passes. round_stop from mid new used blocks packets stop end before rest left ethernet few u is (over from before passes) l) so_far last
-
 -- no packets are read from anywhere
 pub passes_none : (place : Place) (bytes : List ℕ) → Passes place place [] bytes bytes
 passes_none place bytes = ([], refl, λ tail. record { found = refl; lengths = refl })
-
--- a round of which no packet was there is read from its own place
-pub whole_given : (a b : Option (List ℕ)) (old new : Place) (blocks : ℕ) (first packets : List Held) (end : RoundEnd) → first ≡ [] → Told a b (GivesRest blocks old new first packets end)
-    → Told a b (GivesRound blocks old new packets end)
-whole_given a b old new blocks first packets end none told =
-    Told-weaker a b (GivesRest blocks old new [] packets end) (GivesRound blocks old new packets end) (λ bytes left rest. rest old bytes (passes_none old bytes))
-    (subst (λ (xs : List Held). Told a b (GivesRest blocks old new xs packets end)) none told)
-
--- what is between two places, by what was in front of the first
-pub goes_over : (a b : Option (List ℕ)) (old new : Place) (first packets : List Held) → ReadSoFar a b old new first packets → GoesOver old new first packets
-goes_over a b old new first packets so_far = λ from began. record {
-  full = refl;
-  file = so_far.file ∙ began.file;
-  link = so_far.link ∙ began.link;
-  number = omega (arith, so_far.number, began.number);
-  ready = so_far.ready;
-}
-
-pub fills_round : (a b : Option (List ℕ)) (old new : Place) (first packets : List Held) (budget : ℕ) → length packets ≡ budget → ReadSoFar a b old new first packets
-    → FillsRound old new first packets budget
-fills_round a b old new first packets budget full so_far = λ from began. record {
-  full = full;
-  file = so_far.file ∙ began.file;
-  link = so_far.link ∙ began.link;
-  number = omega (arith, so_far.number, began.number, full);
-  ready = so_far.ready;
-}
-
--- of a place that no packet was read behind
-began : (place : Place) → IsReady place → PassesRound place place [] 0
-began place ready = record { full = refl; file = refl; link = refl; number = omega arith; ready = ready }
-
-pub whole_fills : (old new : Place) (first packets : List Held) (budget : ℕ) → IsReady old → first ≡ [] → FillsRound old new first packets budget → PassesRound old new packets budget
-whole_fills old new first packets budget ready none fills = subst (λ (xs : List Held). FillsRound old new xs packets budget) none fills old (began old ready)
-
-pub whole_goes : (old new : Place) (first packets : List Held) → IsReady old → first ≡ [] → GoesOver old new first packets → PassesRound old new packets (length packets)
-whole_goes old new first packets ready none goes = subst (λ (xs : List Held). GoesOver old new xs packets) none goes old (began old ready)
 
 -- a round of no packets
 pub round_none : (packets : List Held) (spares blocks : ℕ) → packets ≡ [] → spares ≡ 0 → blocks ≡ 0 → IsRoundOf packets spares blocks
@@ -251,16 +167,6 @@ round_none [] spares blocks none bare empty = record {
 }
 round_none (p ∷ ps) spares blocks none bare empty = absurd (omega (arith, ap (λ (xs : List Held). length xs) none))
 
-pub whole_numbered : (n : ℕ) (first packets : List Held) → first ≡ [] → NumbersOn n first packets → NumberedFrom n packets
-whole_numbered n first packets none on = subst (λ (xs : List Held). NumbersOn n xs packets) none on n tt (omega arith)
-
-pub numbers_none : (n : ℕ) (first : List Held) → NumbersOn n first first
-numbers_none n first = λ k from is. from
-
-pub numbers_more : (n : ℕ) (mid : ℕ) (first packets : List Held) (p : Held) → NumbersOn n first packets → mid + length first ≡ n + length packets → p.number ≡ mid
-    → NumbersOn n first (packets ++ p ∷ [])
-numbers_more n mid first packets p on at is = λ k from run. numbered_last k packets p (on k from run) (omega (arith, at, is, run))
-
 pub need_last : (packets : List Held) (p : Held) → round_need (map packet_of (packets ++ p ∷ [])) ≡ round_need (map packet_of packets) + need_of (length (buffer_bytes p.skb))
 need_last [] p = omega arith
 need_last (x ∷ xs) p = omega (arith, need_last xs p)
@@ -272,9 +178,6 @@ read_last (x ∷ xs) p h r = (h.0, read_last xs p h.1 r)
 pub captured_last : (xs : List Held) (p : Held) → AllByRecursion IsCaptured (map packet_of xs) → IsCaptured (packet_of p) → AllByRecursion IsCaptured (map packet_of (xs ++ p ∷ []))
 captured_last [] p h r = (r, tt)
 captured_last (x ∷ xs) p h r = (h.0, captured_last xs p h.1 r)
-
-pub so_far_at : (a b : Option (List ℕ)) (old new : Place) (first xs ys : List Held) → ys ≡ xs → ReadSoFar a b old new first xs → ReadSoFar a b old new first ys
-so_far_at a b old new first xs ys e h = subst (ReadSoFar a b old new first) (sym e) h
 
 -- nothing was given back
 pub no_outcomes : (o : OutcomesState) → IsBare o → (t : Tests) (m : ℕ) → ((of_outcomes o).held t m ≡ 0) × ((of_outcomes o).homes t.blocks m ≡ 0)

@@ -1,4 +1,3 @@
-pub mod Ahead
 pub mod Benches
 pub mod Filling
 pub mod Fresh

@@ -1,20 +1,17 @@
 -- What reading a round says of the bytes that were left before it and are left after it.
-use Rattle.std.specs.Prelude.{ℕ, ◌≡◌, ◌+◌, ◌<◌, ◌≤◌, List, [], ◌∷◌, ◌++◌, length, map, Option, None, Some, Ok, ⊤}
-use Rattle.off_io.specs.Told.{Told}
-use Rattle.pcap_io.specs.declared.heads.RecHead.{RecHead}
+use Rattle.std.specs.Prelude.{ℕ, ◌≡◌, ◌+◌, ◌<◌, ◌≤◌, List, [], ◌∷◌, ◌++◌, length, map, None, Some, ⊤}
 use Rattle.pcap_io.specs.declared.place.Place.{Place}
 use Rattle.pcap_io.specs.Capture.{Packet, ended}
 use Rattle.pcap_io.specs.Laws.{frame_length}
 use Rattle.pcap_io.specs.Lengths.{lengths_at}
 use Rattle.pcap_io.specs.Places.{found_at, IsReady}
-use Rattle.pcap_io.specs.Reading.{GivesHead, Loses}
+use Rattle.pcap_io.specs.Reading.{Loses}
 use Rattle.offload_model.specs.Need.{need_of, needed, round_need}
 use Rattle.gro.specs.declared.slot.Slot.{Slot as Held}
 use Rattle.gro.specs.Slots.{packet_of}
-use Rattle.rounds.specs.Fresh.{NumberedFrom}
-use Rattle.reading.specs.Reading.{in_front, Passes, Announces, KeepsHead}
-use Rattle.rounds.specs.declared.round_reading.Halt.{Halt}
-use Rattle.rounds.specs.declared.round_reading.Halt.TheVariants as halts
+use Rattle.reading.specs.Reading.{in_front, Passes, Announces}
+use Rattle.rounds.specs.declared.round.Halt.{Halt}
+use Rattle.rounds.specs.declared.round.Halt.TheVariants as halts
 use Rattle.reading.specs.declared.record.Stop.{Stop}
 use Rattle.reading.specs.declared.record.Stop.TheVariants as stops
 use Rattle.rounds.specs.declared.round.RoundEnd.{RoundEnd}
@@ -83,46 +80,3 @@ pub record PassesRound (old new : Place) (round : List Held) (budget : ℕ) : Ty
   pub link : new.link ≡ old.link
   pub number : new.number ≡ old.number + budget
   pub ready : IsReady new
-
--- ---- a round of which some packets are there already, that were read up to the place `mid`
-
--- from wherever the first packets were read, these stand between
-abbrev pub PassesOver : Place → Place → List Held → List Held → List ℕ → List ℕ → Type 0
-PassesOver mid new first round bytes left =
-    (from : Place) → (before : List ℕ) → Passes from mid (map packet_of first) before bytes
-    → Passes from new (map packet_of round) before left
-
--- and from there the whole round is what its end says
-abbrev pub GivesRest : ℕ → Place → Place → List Held → List Held → RoundEnd → List ℕ → List ℕ → Type 0
-GivesRest blocks mid new first round end bytes left =
-    (from : Place) → (before : List ℕ) → Passes from mid (map packet_of first) before bytes
-    → GivesRound blocks from new round end before left
-
--- from wherever the first packets were taken, these were, and the next one may be
-abbrev pub GoesOver : Place → Place → List Held → List Held → Type 0
-GoesOver mid new first round = (from : Place) → PassesRound from mid first (length first)
-    → PassesRound from new round (length round)
-
--- the same of a whole round
-abbrev pub FillsRound : Place → Place → List Held → List Held → ℕ → Type 0
-FillsRound mid new first round budget = (from : Place) → PassesRound from mid first (length first)
-    → PassesRound from new round budget
-
--- The reader stands behind the header of a record, which is kept: up to the place of that header the packets stand.
--- What the source had left before is `from`, and `to` what it has left.
-pub record WaitsOver (mid new : Place) (from to : Option (List ℕ)) (first round : List Held) (head : RecHead) : Type 0
-  where
-    pub at : Place
-    pub goes : GoesOver mid at first round
-    pub keeps : KeepsHead at new head
-    pub number : at.number + length first ≡ mid.number + length round
-    pub given : Told from to (λ bytes left. (opened : List ℕ) × (PassesOver mid at first round bytes opened
-        × GivesHead at (Ok (Some head)) opened left))
-
--- packets with numbers in turn, up to this one
-abbrev pub NumberedTo : ℕ → List Held → Type 0
-NumberedTo n round = (k : ℕ) × NumberedFrom k round × (k + length round ≡ n)
-
--- with whatever number the first packets begin
-abbrev pub NumbersOn : ℕ → List Held → List Held → Type 0
-NumbersOn n first round = (k : ℕ) → NumberedFrom k first → k + length first ≡ n → NumberedFrom k round

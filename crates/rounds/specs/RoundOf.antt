@@ -1,12 +1,19 @@
 -- What the side that reads hands on: a round by its lists, who holds its blocks, and how many were taken and brought.
-use Rattle.std.specs.Prelude.{ℕ, ◌≡◌, ◌+◌, ◌-◌, ◌*◌, ◌^◌, ◌≤◌, List, [], length, map, min}
+use Rattle.std.specs.Prelude.{ℕ, ◌≡◌, ◌≢◌, ◌+◌, ◌-◌, ◌*◌, ◌^◌, ◌<◌, ◌≤◌, List, [], length, map, min, Option, None, Some}
 use Rattle.std.specs.List.{AllByRecursion}
 use Rattle.block_pool.specs.PoolState.{PoolState, weighed}
 use Rattle.offload_model.specs.Captured.{IsCaptured}
-use Rattle.offload_model.specs.Need.{round_need}
+use Rattle.offload_model.specs.Need.{need_of, round_need}
+use Rattle.pcap_io.specs.declared.heads.RecHead.{RecHead}
+use Rattle.pcap_io.specs.declared.place.Place.{Place}
 use Rattle.gro.specs.declared.slot.Slot.{Slot as Held}
 use Rattle.gro.specs.Slots.{packet_of, counts_of, weighed_slots}
 use Rattle.reading.specs.Laid.{AreRead, LaidFrom}
+use Rattle.rounds.specs.Reading.{EndsAt, IfEnded}
+use Rattle.rounds.specs.RoundsState.{ReadingState}
+use Rattle.rounds.specs.declared.round.Halt.{Halt}
+use Rattle.rounds.specs.declared.round.Halt.TheVariants as halts
+use Rattle.rounds.specs.declared.round.RoundEnd.TheVariants as ends
 
 -- Packets of records as they were read, whose blocks and so many spares are the round's: two spares for each.
 pub record IsRoundOf (packets : List Held) (spares blocks : ℕ) : Type 0 where
@@ -29,6 +36,26 @@ pub record Takes (made from to before after : ℕ) : Type 0 where
   pub taken : min (from + (after - before)) (2 ^ 64 - 1) ≤ to
   pub least : (before ≤ after) × (from ≤ to)
   pub most : to + before ≤ from + made
+
+-- A round of so many blocks was read on, and why no more of it is: it has as many packets as it may, or fewer, and the
+-- count of takes rose by its blocks. It lacks blocks only behind the header of a record that needs more than are home,
+-- and with which it doesn't exceed those that were made.
+pub record Grows (made budget : ℕ) (from to home before : ℕ) (packets : List Held) (after : ℕ) (kept : Option RecHead)
+    (place : Place) (halt : Halt) : Type 0 where
+  pub size : length packets ≤ budget
+  pub fewer : halt ≢ halts.Ended ends.Full → length packets < budget
+  pub takes : Takes made from to before after
+  pub stands : IfEnded halt (λ end. EndsAt end place)
+  pub lacks : halt ≡ halts.Lacking → (head : RecHead) × (kept ≡ Some head) × (home < need_of head.captured)
+      × (after + need_of head.captured ≤ made) × (to ≡ min (from + (after - before)) (2 ^ 64 - 1))
+
+-- of a round that was begun, with room for so many packets
+pub record IsBegun (budget : ℕ) (round : ReadingState) : Type 0 where
+  pub none : round.round.packets ≡ []
+  pub bare : length round.round.spares ≡ 0
+  pub empty : round.round.blocks ≡ 0
+  pub unkept : round.head ≡ None
+  pub room : budget ≤ round.size
 
 -- of who brings blocks home: what those weigh that came, and how often it found none to bring
 pub record Brought : Type 0 where

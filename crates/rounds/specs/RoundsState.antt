@@ -1,14 +1,13 @@
 -- What a contract sees of rounds: which blocks are home, how many these are, how many were made and were taken, how
 -- often a take found no list while a round was read beside work, how often such a round was paused, and of a round
 -- what it holds.
-use Rattle.std.specs.Prelude.{ℕ, Bool, List}
+use Rattle.std.specs.Prelude.{ℕ, Bool, List, Option}
 use Rattle.raw_block.specs.Views.{SoleState}
 use Rattle.pcap_io.specs.declared.heads.RecHead.{RecHead}
 use Rattle.gro.specs.declared.slot.Slot.{Slot}
 use Rattle.taps.specs.declared.clones.TapClone.{TapClone}
 use Rattle.lanes.specs.declared.lane.Lanes.{Lanes}
 use Rattle.lanes.specs.declared.plan.LanePlan.{LanePlan}
-use Rattle.rounds.specs.declared.round.Empty.{Empty}
 use Rattle.rounds.specs.declared.spares.Spares.{Spares}
 
 -- what became of spares while their rounds were worked, how many packets a round may have, how its work is divided, and
@@ -49,11 +48,10 @@ pub record RoundState : Type 0 where
   pub spares : List SoleState
   pub blocks : ℕ
 
--- a round that goes on, the header that was kept, why, and for how many packets its lists have room
-pub record PausedState : Type 0 where
+-- a round that is read, the header that is kept behind it, and for how many packets its lists have room
+pub record ReadingState : Type 0 where
   pub round : RoundState
-  pub head : RecHead
-  pub empty : Empty
+  pub head : Option RecHead
   pub size : ℕ
 
 -- the lanes, and the clones that were kept

@@ -13,11 +13,12 @@ ghost use Rattle.lanes.specs.Work.{IsPlan};
 ghost use Rattle.rounds.specs.Benches.{options_at, Brings, BringsBeside, GivesSpares, IsLent, IsSameBench};
 ghost use Rattle.rounds.specs.Benches.{LeavesNoSpare, Lends, LendsWork, MayBring};
 ghost use Rattle.rounds.specs.Lanes.{worked_bytes, worked_records, IsAloneWork, IsKeptWorkOf, WorksAs};
+ghost use Rattle.rounds.specs.RoundOf.{IsBegun};
 ghost use Rattle.rounds.specs.Weights.{weights_of, weights_worked, weights_left};
 
 use crate::home::bring_out;
 use crate::memory::{close_places, open_places, place_spares};
-use crate::round::{Blank, Rest, Round, RoundRead, Worked, no_round};
+use crate::round::{Reading, Rest, Round, RoundRead, Worked, make_lists, no_round};
 use crate::table::Returned;
 use crate::writing::write_lanes;
 use block_pool::{Giver, Pool};
@@ -123,8 +124,8 @@ impl Bench {
                 return Err(error);
             }
         };
-        let Blank { packets, spares } = match Blank::make(alloc, budget) {
-            Ok(blank) => blank,
+        let (packets, spares) = match make_lists(alloc, budget) {
+            Ok(lists) => lists,
             Err(error) => {
                 close_places(places);
                 out.settle();
@@ -175,11 +176,9 @@ impl Bench {
         self.out.reserve(2 * self.places.len())
     }
 
-    /// The same, and lists for the packets of the next round and for their spares.
-    pub fn take_blank(&mut self) -> Result<Blank, AllocError>
-        ensures none { IfOk result (λ b. (b.packets.items ≡ []) × (home b.spares ≡ 0)) }
-        ensures reserved { IfOk result (λ b. (self.old.budget ≤ b.packets.room)
-            × (2 * self.old.budget ≤ b.spares.made)) }
+    /// The same, and a round is begun, in the memory of those before it.
+    pub fn begin(&mut self) -> Result<Reading, AllocError>
+        ensures begun { IfOk result (IsBegun self.old.budget) }
         ensures room { OnOk result (self.new.blocks + self.new.blocks ≤ self.new.room) }
         ensures later { self.old.room ≤ self.new.room }
         ensures same { IsSameBench self.old self.new }
@@ -189,7 +188,7 @@ impl Bench {
         place_spares(self.alloc, &mut self.spares, self.budget)?;
         let packets = replace(&mut self.packets, Packets::new(self.alloc));
         let spares = replace(&mut self.spares, Pool::new(self.alloc));
-        Ok(Blank { packets, spares })
+        Ok(Reading::begin(packets, spares, self.budget))
     }
 
     // The memory of a round's packets.

@@ -17,8 +17,8 @@ ghost use Rattle.rounds.specs.Reading.{GivesRound, PassesRound};
 ghost use Rattle.rounds.specs.RoundOf.{brought_by, Came};
 
 use crate::intake::Intake;
-use crate::round::{ReadAhead, RoundEnd, RoundRead};
-use block_supply::Supply;
+use crate::round::{Halt, RoundEnd, RoundRead};
+use block_supply::{AllHome, Supply};
 use off_io::Source;
 use pcap_io::CaptureReader;
 use std::sync::Wait;
@@ -96,19 +96,20 @@ impl Intake {
         ensures failed { result.end ≡ RoundEnd.ReadFault
             → Rose (S.faults (source_of reader.old)) (S.faults (source_of reader.new)) }
     {
-        let blank = self.begin();
-        let ahead = self.read_ahead(&(), reader, more, blank);
-        let paused = match ahead {
-            ReadAhead::Read(read) => return read,
-            ReadAhead::Paused(paused) => paused,
+        let mut round = match self.begin() {
+            Ok(round) => round,
+            Err(_) => return self.read_none(),
         };
-        let used = paused.blocks();
-        if self.bring_rest(rt, used, more) {
-            return self.go_on(paused, reader);
+        if let Halt::Ended(end) = self.read(reader, more, &mut round) {
+            let round = round.into_round();
+            return RoundRead { round, end };
         }
-        RoundRead {
-            round: paused.into_round(),
-            end: RoundEnd::GivenUp,
+        if !self.bring_rest(rt, round.blocks(), more) {
+            let (round, end) = (round.into_round(), RoundEnd::GivenUp);
+            return RoundRead { round, end };
         }
+        let halt = self.read(reader, &mut AllHome::new(), &mut round);
+        let (round, end) = (round.into_round(), halt.end());
+        RoundRead { round, end }
     }
 }

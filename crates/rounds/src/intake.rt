@@ -1,30 +1,23 @@
 //! The side of rounds that reads.
-ghost use Rattle.std.specs.Prelude.{◌≡◌, ◌≢◌, ◌+◌, ◌-◌, ◌*◌, ◌<◌, ◌≤◌, ◌^◌, [], length, map, min, IfOk, OnOk, OnErr};
-ghost use Rattle.std.specs.Prelude.{ℕ, true};
+ghost use Rattle.std.specs.Prelude.{◌≡◌, ◌+◌, ◌-◌, ◌*◌, ◌<◌, ◌≤◌, ◌^◌, [], length, map, min, IfOk, OnOk};
+ghost use Rattle.std.specs.Prelude.{ℕ, ⊤};
 ghost use Rattle.std.specs.List.{AllByRecursion};
 ghost use Rattle.block_pool.specs.PoolState.{home, weighed};
-ghost use Rattle.off_io.specs.Faults.{Rose};
 ghost use Rattle.off_io.specs.Told.{Told};
 ghost use Rattle.pcap_io.specs.declared.heads.Link.TheVariants.{Ethernet};
 ghost use Rattle.pcap_io.specs.declared.place.Place.{Place};
-ghost use Rattle.pcap_io.specs.Places.{IsReady};
 ghost use Rattle.pcap_io.specs.Readers.{place_of, source_of, SameLoan};
-ghost use Rattle.offload_model.specs.Need.{need_of, round_need};
+ghost use Rattle.offload_model.specs.Need.{round_need};
 ghost use Rattle.offload_model.specs.Captured.{IsCaptured};
 ghost use Rattle.gro.specs.Slots.{packet_of};
-ghost use Rattle.reading.specs.Reading.{KeepsHead};
-ghost use Rattle.rounds.specs.Ahead.{round_of, IfPaused, IfRead, Lacks};
-ghost use Rattle.rounds.specs.Filling.{reached, FillsAhead, FillsBehind};
-ghost use Rattle.rounds.specs.Fresh.{NumberedFrom};
+ghost use Rattle.rounds.specs.Filling.{reached, Fills, Reached, Stands};
 ghost use Rattle.rounds.specs.Weights.{weights_of};
-ghost use Rattle.rounds.specs.Reading.{EndsAt, GivesRound, NumberedTo, PassesRound};
-ghost use Rattle.rounds.specs.RoundOf.{brought_by, Came, Takes};
+ghost use Rattle.rounds.specs.RoundOf.{brought_by, Came, Grows, IsBegun};
 
-use crate::round::{Blank, Empty, Paused, ReadAhead, Round, RoundEnd, RoundRead, no_round};
-use crate::round_reading::{Halt, read_behind, read_more};
+use crate::round::{Halt, Reading, RoundEnd, RoundRead, make_lists, no_round};
+use crate::round_reading::read_more;
 use block_pool::Pool;
 use block_supply::{RECORD_BLOCKS, Supply};
-use gro::Packets;
 use off_io::Source;
 use pcap_io::CaptureReader;
 use raw_block::Sole;
@@ -138,13 +131,13 @@ impl Intake {
         self.pauses
     }
 
-    /// Memory for the packets of a round and for their spares.
-    pub fn begin(&self) -> Result<Blank, AllocError>
-        ensures none { IfOk result (λ b. (b.packets.items ≡ []) × (home b.spares ≡ 0)) }
-        ensures room { IfOk result (λ b. (self.now.budget ≤ b.packets.room)
-            × (2 * self.now.budget ≤ b.spares.made)) }
+    /// Begins a round: lists that have room for its packets and for their spares.
+    pub fn begin(&self) -> Result<Reading, AllocError>
+        ensures begun { IfOk result (IsBegun self.now.budget) }
+        ensures budget { (1 ≤ self.now.budget) × (self.now.budget ≤ 4096) }
     {
-        Blank::make(self.alloc, self.budget)
+        let (packets, spares) = make_lists(self.alloc, self.budget)?;
+        Ok(Reading::begin(packets, spares, self.budget))
     }
 
     /// A round of no records, for want of memory.
@@ -181,178 +174,71 @@ impl Intake {
         more.look(&mut self.pool);
     }
 
-    /// Reads the next round, into lists that have room for its packets and their spares; where there was no memory for
-    /// these none is read. It is paused where a record needs blocks that aren't home and don't come: the header of that
-    /// record is kept. The runtime goes with it for the borrow checker's part alone, by which what a side borrows ends
-    /// with what both borrow.
-    pub fn read_ahead<R: Sync, S: Source, H: Supply>(
+    /// Reads on in a round, behind the records that it has, and behind the header of its next one where that is kept:
+    /// until it has as many as it may have, or no more. Blocks that a record needs are brought once its header was
+    /// taken. Where they aren't home and don't come that is `Lacking`: the header is kept, and the next call goes on
+    /// behind it. What is said of the round is said of wherever it began (`fills`).
+    pub fn read<S: Source, H: Supply>(
         &mut self,
-        _rt: &R,
         reader: &mut CaptureReader<'_, S>,
         more: &mut H,
-        blank: Result<Blank, AllocError>,
-    ) -> ReadAhead
-        requires ready { IsReady (place_of reader.old) }
+        round: &mut Reading,
+    ) -> Halt
+        requires stands { (start : Reached) × ((from : Place)
+            × Stands start from (reached S.left S.faults reader.old) round.old.head round.old.round.packets) }
         requires link { (place_of reader.old).link ≡ Ethernet }
-        requires none { IfOk blank (λ b. (b.packets.items ≡ []) × (home b.spares ≡ 0)) }
-        requires reserved { IfOk blank (λ b. (self.old.budget ≤ b.packets.room)
-            × (2 * self.old.budget ≤ b.spares.made)) }
+        requires fewer { length round.old.round.packets < self.old.budget }
+        requires room { self.old.budget ≤ round.old.size }
+        requires within { round.old.round.blocks ≤ self.old.blocks }
         ensures same_source { SameLoan reader.old reader.new }
-        ensures fills { FillsAhead self.old.blocks self.old.budget (reached S.left S.faults reader.old)
-            (reached S.left S.faults reader.new) result }
-        ensures paused { IfPaused result (Lacks self.new.home self.old.blocks self.old.taken self.new.taken) }
-        ensures refused { IfPaused result (λ _.
-            min (H.refusals more.old + 1) (2 ^ 64 - 1) ≤ H.refusals more.new) }
-        ensures unread { OnErr blank (self.new ≡ self.old) }
+        ensures tells { Told (S.left (source_of reader.old)) (S.left (source_of reader.new)) (λ _ _. ⊤) }
+        ensures fills { (start : Reached) → (from : Place)
+            → Stands start from (reached S.left S.faults reader.old) round.old.head round.old.round.packets
+            → Fills self.old.blocks self.old.budget start from (reached S.left S.faults reader.new) round.new.head
+            round.new.round.packets result }
+        ensures grows { Grows self.old.blocks self.old.budget self.old.taken self.new.taken self.new.home
+            round.old.round.blocks round.new.round.packets round.new.round.blocks round.new.head
+            (place_of reader.new) result }
+        ensures refused { result ≡ Halt.Lacking
+            → min (H.refusals more.old + 1) (2 ^ 64 - 1) ≤ H.refusals more.new }
+        ensures captured { AllByRecursion IsCaptured (map packet_of round.new.round.packets) }
+        ensures need { round.new.round.blocks ≡ round_need (map packet_of round.new.round.packets) }
         ensures came { Came (brought_by H.weights H.refusals more.old)
-            (brought_by H.weights H.refusals more.new) self.old.home
-            (self.new.home + (round_of result).blocks) (λ h. weighed h self.old.stock)
-            (λ h. weighed h self.new.stock + weights_of (round_of result) h) }
+            (brought_by H.weights H.refusals more.new) (self.old.home + round.old.round.blocks)
+            (self.new.home + round.new.round.blocks) (λ h. weighed h self.old.stock + weights_of round.old.round h)
+            (λ h. weighed h self.new.stock + weights_of round.new.round h) }
         ensures same { (self.new.blocks ≡ self.old.blocks) × (self.new.budget ≡ self.old.budget)
             × (self.new.empties ≡ self.old.empties) × (self.new.pauses ≡ self.old.pauses) }
         ensures budget { (1 ≤ self.old.budget) × (self.old.budget ≤ 4096) }
-        ensures takes { Takes self.old.blocks self.old.taken self.new.taken 0 (round_of result).blocks }
-        ensures stands { IfRead result (λ read. EndsAt read.end (place_of reader.new)) }
-        ensures room { IfPaused result (λ paused. self.old.budget ≤ paused.size) }
+        ensures size { round.new.size ≡ round.old.size }
     {
         let _ = self.pool.taken();
-        let Blank {
-            mut packets,
-            mut spares,
-        } = match blank {
-            Ok(blank) => blank,
-            Err(_) => return ReadAhead::Read(no_round(self.alloc)),
-        };
-        let mut kept = None;
-        let (blocks, halt) = read_more(
+        let (used, halt) = read_more(
             self.alloc,
             &mut self.pool,
             &mut self.hold,
             reader,
             more,
-            &mut kept,
+            &mut round.head,
             self.budget as usize,
-            &mut packets,
-            &mut spares,
-            0,
+            &mut round.packets,
+            &mut round.spares,
+            round.used,
         );
-        match halt {
-            Halt::Ended(end) => {
-                let round = Round {
-                    packets,
-                    spares,
-                    blocks,
-                };
-                ReadAhead::Read(RoundRead { round, end })
-            }
-            Halt::Lacking => {
-                let Some(head) = kept else { unreachable!() };
-                let empty = Empty {
-                    takes: blocks as u64,
-                };
-                ReadAhead::Paused(Paused {
-                    packets,
-                    spares,
-                    blocks,
-                    size: self.budget,
-                    head,
-                    empty,
-                })
-            }
-        }
+        round.used = used;
+        halt
     }
 
-    /// Reads the rest of a round that was paused, from behind the header that was kept, once all blocks but its own are
-    /// home. Its lists get room for as many records as a round may have, where they haven't.
-    pub fn read_on<S: Source>(
-        &mut self,
-        paused: Paused,
-        reader: &mut CaptureReader<'_, S>,
-    ) -> RoundRead
-        requires kept { (at : Place) × (KeepsHead at (place_of reader.old) paused.head
-            × NumberedTo at.number paused.round.packets) }
-        requires link { (place_of reader.old).link ≡ Ethernet }
-        requires out { self.old.home + paused.round.blocks ≡ self.old.blocks }
-        requires fits { paused.round.blocks + need_of paused.head.captured ≤ self.old.blocks }
-        requires fewer { length paused.round.packets < self.old.budget }
-        ensures same_source { SameLoan reader.old reader.new }
-        ensures fills { FillsBehind self.old.blocks self.old.budget (reached S.left S.faults reader.old)
-            (reached S.left S.faults reader.new) paused.head paused.round.packets result.round.packets result.end }
-        ensures captured { AllByRecursion IsCaptured (map packet_of result.round.packets) }
-        ensures need { result.round.blocks ≡ round_need (map packet_of result.round.packets) }
-        ensures home { self.new.home + result.round.blocks ≡ self.old.blocks }
-        ensures named { (h : ℕ → ℕ) → weighed h self.new.stock + weights_of result.round h
-            ≡ weighed h self.old.stock + weights_of paused.round h }
-        ensures same { (self.new.blocks ≡ self.old.blocks) × (self.new.budget ≡ self.old.budget)
-            × (self.new.empties ≡ self.old.empties) × (self.new.pauses ≡ self.old.pauses) }
-        ensures budget { (1 ≤ self.old.budget) × (self.old.budget ≤ 4096) }
-        ensures takes { Takes self.old.blocks self.old.taken self.new.taken paused.round.blocks result.round.blocks }
-        ensures going { result.end ≢ RoundEnd.GivenUp }
+    /// Room in a round's lists for as many records as a round may have here, where it was begun for fewer.
+    pub fn make_room(&self, round: &mut Reading) -> Result<(), AllocError>
+        requires fewer { length round.old.round.packets < self.now.budget }
+        ensures room { OnOk result (self.now.budget ≤ round.new.size) }
+        ensures same { (round.new.round.packets ≡ round.old.round.packets)
+            × (round.new.round.blocks ≡ round.old.round.blocks) × (round.new.head ≡ round.old.head) }
+        ensures read { AllByRecursion IsCaptured (map packet_of round.old.round.packets)
+            × (round.old.round.blocks ≡ round_need (map packet_of round.old.round.packets)) }
+        ensures named { (h : ℕ → ℕ) → weights_of round.new.round h ≡ weights_of round.old.round h }
     {
-        let mut paused = paused;
-        if paused.make_room(self.alloc, self.budget).is_err() {
-            return RoundRead {
-                round: paused.into_round(),
-                end: RoundEnd::NoMemory,
-            };
-        }
-        self.go_on(paused, reader)
-    }
-
-    /// The same of one whose lists have room.
-    pub(crate) fn go_on<S: Source>(
-        &mut self,
-        paused: Paused,
-        reader: &mut CaptureReader<'_, S>,
-    ) -> RoundRead
-        requires kept { (at : Place) × (KeepsHead at (place_of reader.old) paused.head
-            × NumberedTo at.number paused.round.packets) }
-        requires link { (place_of reader.old).link ≡ Ethernet }
-        requires out { self.old.home + paused.round.blocks ≡ self.old.blocks }
-        requires fits { paused.round.blocks + need_of paused.head.captured ≤ self.old.blocks }
-        requires fewer { length paused.round.packets < self.old.budget }
-        requires room { self.old.budget ≤ paused.size }
-        ensures same_source { SameLoan reader.old reader.new }
-        ensures fills { FillsBehind self.old.blocks self.old.budget (reached S.left S.faults reader.old)
-            (reached S.left S.faults reader.new) paused.head paused.round.packets result.round.packets result.end }
-        ensures captured { AllByRecursion IsCaptured (map packet_of result.round.packets) }
-        ensures need { result.round.blocks ≡ round_need (map packet_of result.round.packets) }
-        ensures home { self.new.home + result.round.blocks ≡ self.old.blocks }
-        ensures named { (h : ℕ → ℕ) → weighed h self.new.stock + weights_of result.round h
-            ≡ weighed h self.old.stock + weights_of paused.round h }
-        ensures same { (self.new.blocks ≡ self.old.blocks) × (self.new.budget ≡ self.old.budget)
-            × (self.new.empties ≡ self.old.empties) × (self.new.pauses ≡ self.old.pauses) }
-        ensures budget { (1 ≤ self.old.budget) × (self.old.budget ≤ 4096) }
-        ensures takes { Takes self.old.blocks self.old.taken self.new.taken paused.round.blocks result.round.blocks }
-        ensures stands { EndsAt result.end (place_of reader.new) }
-    {
-        let _ = self.pool.taken();
-        let Paused {
-            mut packets,
-            mut spares,
-            blocks,
-            size: _,
-            head,
-            empty: _,
-        } = paused;
-        let (blocks, end) = read_behind(
-            self.alloc,
-            &mut self.pool,
-            &mut self.hold,
-            reader,
-            &head,
-            self.budget as usize,
-            &mut packets,
-            &mut spares,
-            blocks,
-        );
-        RoundRead {
-            round: Round {
-                packets,
-                spares,
-                blocks,
-            },
-            end,
-        }
+        round.make_room(self.alloc, self.budget)
     }
 }

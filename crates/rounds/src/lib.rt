@@ -35,8 +35,8 @@
 //! - `ok`, `err` of `write_round`: byte for byte what is written of a round that was worked.
 //! - `home`: how many blocks are home after each call, as an equation; after `drop_round` and `end_round`, and where
 //!   `work_round` wants memory, all of the round.
-//! - `freed` of `discard` of [`Round`] and [`Paused`]: a round that is given up outside its rounds frees just the
-//!   blocks that it has, and tells how many these are.
+//! - `freed` of `discard` of [`Round`]: a round that is given up outside its rounds frees just the blocks that it has,
+//!   and tells how many these are.
 //! - `need`, `taken`, `most`: the blocks that are out are what the packets need, and `taken` rises by at least as many;
 //!   it never falls, however merging ends (`least`).
 //! - `handled` of [`handle_from`]: the rounds that were read stand one behind another in the capture
@@ -47,8 +47,8 @@
 //!   `offload_model`) with all options, whole rounds alone; a round that exceeds the blocks is told by its number and
 //!   its need. After a fault, or want of memory, it is that of the bytes that are gone, or a prefix of it. All blocks
 //!   are home whatever the ending (`home`).
-//! - `taken` is the count of [`Intake`]'s own takes: `read_round`, `read_ahead`, `read_on` and what goes by them raise
-//!   it, and no other call changes it (`home`, `same`), also where blocks come home on a list (`bring_in`).
+//! - `taken` is the count of [`Intake`]'s own takes: `read` and what goes by it raise it, and no other call changes it
+//!   (`home`, `same`), also where blocks come home on a list (`bring_in`).
 //! - `sum`, `home` of [`Intake`], `brings` of [`Bench`]: where one side reads and the other works no block is lost
 //!   between them, and `given`, `puts` and `gives` say of a round on its way what `merge_all` says of it.
 //! - `worked`, `brings` and `gave` where a giver is lent: what it gave and what comes home are together the round's
@@ -62,8 +62,8 @@
 //!   home, which is kept, and `pauses` counts that (`paused`): only where who brings blocks counts that it found none.
 //!   `given_up`: a paused round is given up, an end of its own, only where that thread keeps the blocks. `whole`: for
 //!   want of memory a round ends between two records alone, so a paused one goes on first.
-//! - `fills`, `paused`, `refused` of `read_ahead` and `fills` of `read_on` of [`Intake`], `works`, `lends` of
-//!   `work_lent` of [`Bench`]: the same by its parts, for whoever drives rounds one by one (the crate `ahead`).
+//! - `fills`, `grows`, `refused` of `read` of [`Intake`], `works`, `lends` of `work_lent` of [`Bench`]: the same by its
+//!   parts, for whoever drives rounds one by one (the crate `ahead`).
 //! - `captured` of `Merged`: the packets that are merged are such as a capture may hold, since each was read into
 //!   fields of 32 bits and into bytes.
 //!
@@ -91,6 +91,9 @@
 //! let mut rounds = Rounds::make(alloc, blocks, 64, plan, false)?;
 //! let end = rounds.merge_all(&mut Alone { gate: &NoGate }, &mut reader, &file, &mut sink);
 //! ```
+//!
+//! A round that is read is a value, a [`Reading`]: [`Intake::read`] goes on in it until it has an end, or lacks blocks.
+//! What it comes to is said of wherever it began (`specs/Filling.antt`), so one call after another says what one does.
 //!
 //! Its parts: `round_reading` (a round of records, each read by the crate `reading`); `table` and `home` (what comes
 //! back, by marks or by number, and all of a round given up at whichever point); `lane_work` (a round over lanes, by
@@ -188,7 +191,7 @@ pub use handler::RoundHandler;
 pub use intake::Intake;
 pub use lists::bring_lists;
 pub use merge::{MergeEnd, RoundWriter, Step};
-pub use round::{Blank, Empty, Paused, ReadAhead, Rest, Round, RoundEnd, RoundRead, Worked};
+pub use round::{Halt, Reading, Rest, Round, RoundEnd, RoundRead, Worked};
 pub use rounds::Rounds;
 pub use spares::Spares;
 pub use turns::handle_from;

@@ -6,7 +6,8 @@ ghost use Rattle.offload_model.specs.Captured.{IsCaptured};
 ghost use Rattle.offload_model.specs.Need.{round_need};
 ghost use Rattle.gro.specs.Slots.{packet_of};
 ghost use Rattle.rounds.specs.Merging.{is_worked as is_worked_end};
-ghost use Rattle.rounds.specs.Reading.{IsEndOf};
+ghost use Rattle.rounds.specs.Reading.{IsHaltOf};
+ghost use Rattle.rounds.specs.RoundOf.{IsBegun};
 ghost use Rattle.rounds.specs.Weights.{weights_of};
 
 use block_pool::Pool;
@@ -18,27 +19,6 @@ use reading::Stop;
 use std::alloc::{AllocError, Global};
 use std::marker::Model;
 use taps::TapClone;
-
-/// Memory for the packets of a round and for their spares, of which it has none yet. It must be spent: read into, or
-/// given up.
-pub struct Blank {
-    pub(crate) packets: Packets,
-    /// With places for two blocks a packet, none of them taken.
-    pub(crate) spares: Pool,
-}
-
-impl Blank {
-    /// For up to `budget` packets.
-    pub(crate) fn make(alloc: Global, budget: u32) -> Result<Blank, AllocError>
-        requires few { budget ≤ 4096 }
-        ensures none { IfOk result (λ b. (b.packets.items ≡ []) × (home b.spares ≡ 0)) }
-        ensures room { IfOk result (λ b. (budget ≤ b.packets.room) × (2 * budget ≤ b.spares.made)) }
-    {
-        let spares = Pool::empty(alloc, 2 * budget)?;
-        let packets = Packets::with_capacity(alloc, budget as usize)?;
-        Ok(Blank { packets, spares })
-    }
-}
 
 /// The records of a round, in blocks. It must be spent: worked or dropped, by the rounds that read it.
 pub struct Round {
@@ -179,72 +159,89 @@ pub struct RoundRead {
     pub end: RoundEnd,
 }
 
-/// Why a read beside work was paused: a take found no list of blocks.
-#[derive(Clone, Copy, Debug, PartialEq, Eq)]
-pub struct Empty {
-    /// How many blocks the read had taken by then.
-    pub(crate) takes: u64,
+/// Why no more records of a round are read.
+#[derive(Clone, Copy)]
+pub enum Halt {
+    /// It has no more, for this.
+    Ended(RoundEnd),
+    /// Blocks that its next record needs aren't home. The header of this one was taken and is kept.
+    Lacking,
 }
 
-impl Empty {
-    /// The blocks that the read had taken by then.
-    pub fn takes(&self) -> u64
-        ensures takes { result ≡ self.now.takes }
+impl Halt {
+    /// The end of a round that lacks no blocks.
+    pub fn end(self) -> RoundEnd
+        requires ended { self ≢ Halt.Lacking }
+        ensures end { self ≡ Halt.Ended result }
     {
-        self.takes
+        match self {
+            Halt::Ended(end) => end,
+            Halt::Lacking => unreachable!(),
+        }
     }
 }
 
-/// A round that goes on: its records so far, and the header of the next one, whose blocks weren't home. It must be
-/// spent: [`Intake::read_on`](crate::Intake::read_on) goes on behind that header.
-pub struct Paused {
+/// A round that is being read: its records so far, and where blocks were lacking the header of the next one, whose body
+/// comes next from the source. It must be spent: [`Intake::read`](crate::Intake::read) reads on, until it is a round.
+pub struct Reading {
     pub(crate) packets: Packets,
-    /// Two blocks for each packet.
+    // Two blocks for each packet.
     pub(crate) spares: Pool,
-    /// How many blocks packets and spares have together.
-    pub(crate) blocks: u32,
-    /// For how many packets there is room, and for their spares.
-    pub(crate) size: u32,
-    /// That record's body comes next from the source.
-    pub(crate) head: RecHead,
-    /// How many blocks it had taken by then.
-    pub(crate) empty: Empty,
+    // How many blocks packets and spares have together.
+    pub(crate) used: u32,
+    // For how many packets there is room, and for their spares.
+    size: u32,
+    pub(crate) head: Option<RecHead>,
 }
 
-impl Model for Paused {
+impl Model for Reading {
     ghost use Rattle.std.specs.Prelude.{ℕ, ◌+◌, ◌*◌, ◌≤◌, length};
     ghost use Rattle.block_pool.specs.PoolState.{home};
     ghost use Rattle.rounds.specs.Fresh.{NumberedFrom};
     ghost use Rattle.rounds.specs.RoundOf.{IsRoundOf};
-    ghost use Rattle.rounds.specs.RoundsState.{PausedState};
+    ghost use Rattle.rounds.specs.RoundsState.{ReadingState};
 
-    ghost Value = { PausedState };
+    ghost Value = { ReadingState };
 
-    ghost view = { λ p. record {
-      round = record { packets = p.packets.items; spares = p.spares.blocks; blocks = p.blocks };
-      head = p.head;
-      empty = p.empty;
-      size = p.size;
+    ghost view = { λ r. record {
+      round = record { packets = r.packets.items; spares = r.spares.blocks; blocks = r.used };
+      head = r.head;
+      size = r.size;
     } };
 
-    ghost invariant = { λ p. IsRoundOf p.packets.items (home p.spares) p.blocks
-        × ((k : ℕ) × NumberedFrom k p.packets.items) × (p.size ≤ length p.packets.items + p.packets.room)
-        × (2 * p.size ≤ p.spares.made) };
+    ghost invariant = { λ r. IsRoundOf r.packets.items (home r.spares) r.used
+        × ((k : ℕ) × NumberedFrom k r.packets.items) × (r.size ≤ length r.packets.items + r.packets.room)
+        × (2 * r.size ≤ r.spares.made) };
 }
 
-impl Paused {
+impl Reading {
+    // A round of no records yet, in lists with room for `size` packets and for their spares.
+    pub(crate) fn begin(packets: Packets, spares: Pool, size: u32) -> Reading
+        requires none { (packets.items ≡ []) × (home spares ≡ 0) }
+        requires room { (size ≤ packets.room) × (2 * size ≤ spares.made) }
+        ensures begun { IsBegun size result }
+    {
+        Reading {
+            packets,
+            spares,
+            used: 0,
+            size,
+            head: None,
+        }
+    }
+
     /// Its blocks, those of its spares with them.
     pub fn blocks(&self) -> u32
         ensures blocks { result ≡ self.now.round.blocks }
     {
-        self.blocks
+        self.used
     }
 
-    /// Why, and how many blocks it had taken by then.
-    pub fn empty(&self) -> Empty
-        ensures empty { result ≡ self.now.empty }
+    /// The header of its next record, whose blocks weren't home.
+    pub fn head(&self) -> Option<RecHead>
+        ensures head { result ≡ self.now.head }
     {
-        self.empty
+        self.head
     }
 
     // Room for as many records as a round may have: for their packets, and for their spares, which move where their
@@ -269,39 +266,34 @@ impl Paused {
         Ok(())
     }
 
-    /// Its records so far, of which no more are read.
+    /// Its records, of which no more are read.
     pub fn into_round(self) -> Round
         ensures same { result ≡ self.round }
     {
-        let Paused {
+        let Reading {
             packets,
             spares,
-            blocks,
+            used,
             size: _,
             head: _,
-            empty: _,
         } = self;
         Round {
             packets,
             spares,
-            blocks,
+            blocks: used,
         }
-    }
-
-    /// Gives the round up outside its rounds, as [`Round::discard`].
-    pub fn discard(self) -> usize
-        ensures freed { result ≡ self.round.blocks }
-    {
-        self.into_round().discard()
     }
 }
 
-/// What was read beside the work of another round.
-pub enum ReadAhead {
-    /// It ended without a pause.
-    Read(RoundRead),
-    /// Blocks were wanted that weren't home, and no list of them was found.
-    Paused(Paused),
+/// Lists for up to `budget` packets and for their spares.
+pub(crate) fn make_lists(alloc: Global, budget: u32) -> Result<(Packets, Pool), AllocError>
+    requires few { budget ≤ 4096 }
+    ensures none { IfOk result (λ lists. (lists.0.items ≡ []) × (home lists.1 ≡ 0)) }
+    ensures room { IfOk result (λ lists. (budget ≤ lists.0.room) × (2 * budget ≤ lists.1.made)) }
+{
+    let spares = Pool::empty(alloc, 2 * budget)?;
+    let packets = Packets::with_capacity(alloc, budget as usize)?;
+    Ok((packets, spares))
 }
 
 /// Whether a round that ended so is worked: there was memory for it and there were blocks, which it doesn't exceed.
@@ -329,16 +321,16 @@ pub(crate) fn no_round(alloc: Global) -> RoundRead
     }
 }
 
-pub(crate) fn end_of(stop: Stop) -> RoundEnd
-    requires begun { stop ≢ Stop.Lacking }
-    ensures end { IsEndOf stop result }
+pub(crate) fn halt_of(stop: Stop) -> Halt
+    ensures halt { IsHaltOf stop result }
 {
-    match stop {
+    let end = match stop {
         Stop::End => RoundEnd::End,
         Stop::Malformed(fault) => RoundEnd::Malformed(fault),
         Stop::PoolEmpty { need } => RoundEnd::PoolEmpty { need },
         Stop::ReadFault => RoundEnd::ReadFault,
         Stop::NoMemory => RoundEnd::NoMemory,
-        Stop::Lacking => unreachable!(),
-    }
+        Stop::Lacking => return Halt::Lacking,
+    };
+    Halt::Ended(end)
 }

@@ -26,7 +26,7 @@ ghost use Rattle.rounds.specs.Weights.{weights_of, weights_left, weights_worked}
 use crate::bench::Bench;
 use crate::handler::RoundHandler;
 use crate::intake::Intake;
-use crate::round::{ReadAhead, Rest, Round, RoundEnd, RoundRead, Worked};
+use crate::round::{Rest, Round, RoundEnd, RoundRead, Worked};
 use crate::spares::Spares;
 use block_supply::AllHome;
 use lanes::{LanePlan, Works};
@@ -196,17 +196,13 @@ impl Rounds {
         ensures failed { result.end ≡ RoundEnd.ReadFault
             → Rose (S.faults (source_of reader.old)) (S.faults (source_of reader.new)) }
     {
-        let blank = self.bench.take_blank();
-        let ahead = self
-            .intake
-            .read_ahead(&(), reader, &mut AllHome::new(), blank);
-        match ahead {
-            ReadAhead::Read(read) => read,
-            ReadAhead::Paused(paused) => {
-                paused.discard();
-                unreachable!()
-            }
-        }
+        let mut round = match self.bench.begin() {
+            Ok(round) => round,
+            Err(_) => return self.intake.read_none(),
+        };
+        let halt = self.intake.read(reader, &mut AllHome::new(), &mut round);
+        let (round, end) = (round.into_round(), halt.end());
+        RoundRead { round, end }
     }
 
     /// Works a round: queue by queue what the runs of its flows come to, in the order of their first packets, and tap

@@ -6,11 +6,11 @@ ghost use Rattle.pcap_io.specs.Readers.{place_of};
 
 use crate::byte_lists::joined;
 use crate::reading_beside::memory::{How, large_record, rounds_of, source_of};
-use ahead::{read_rest, work_and_read};
+use ahead::{ReadAhead, read_rest, work_and_read};
 use lanes::{Alone, Beside, Works};
 use off_io::{Failed, Feed, Gate, Meeting, MemSink, MemSource, NoGate, Source, Who};
 use pcap_io::{CaptureReader, FileHead, Link};
-use rounds::{MergeEnd, ReadAhead, RoundEnd, RoundRead, Rounds, Step};
+use rounds::{MergeEnd, RoundEnd, RoundRead, Rounds, Step};
 use std::alloc::Global;
 use std::process::Abort;
 use std::sync::Wait;

@@ -1,7 +1,7 @@
 //! The example of each first page, as it stands there, and what it comes to.
 use crate::plans::plain;
 use crate::reading_beside::compared::{clone_of, packet, spend_all};
-use ahead::work_and_read;
+use ahead::{ReadAhead, work_and_read};
 use check_totals::{Totals, write_totals};
 use checking::{CheckEnd, check_all};
 use checking_beside::check_beside;
@@ -12,7 +12,7 @@ use lanes::Alone;
 use off_io::{Feed, MemSink, MemSource, NoGate};
 use pcap_io::{CaptureReader, Link};
 use pipeline::merge_beside;
-use rounds::{MergeEnd, ReadAhead, RoundEnd, RoundRead, Rounds};
+use rounds::{MergeEnd, RoundEnd, RoundRead, Rounds};
 use std::alloc::Global;
 use std::process::Abort;
 use std::test::Fail;

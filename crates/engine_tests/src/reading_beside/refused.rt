@@ -6,11 +6,11 @@ ghost use Rattle.pcap_io.specs.Places.{IsReady};
 ghost use Rattle.pcap_io.specs.Readers.{place_of};
 
 use crate::plans::plain;
-use ahead::{read_rest, work_and_read};
+use ahead::{ReadAhead, read_rest, work_and_read};
 use lanes::Alone;
 use off_io::{Feed, MemSink, NoGate, Source, SureSource};
 use pcap_io::{CaptureReader, FileHead, Link};
-use rounds::{MergeEnd, ReadAhead, RoundEnd, RoundRead, Rounds, Step};
+use rounds::{MergeEnd, RoundEnd, RoundRead, Rounds, Step};
 use std::alloc::{AllocError, Global};
 use std::process::Abort;
 use std::sync::Wait;

@@ -10,14 +10,15 @@ use Rattle.offload_model.specs.Written.{round_records}
 use Rattle.gro.specs.Slots.{packet_of}
 use Rattle.lanes.specs.Lanes.{IsMerged}
 use Rattle.rounds.specs.Benches.{fulls_by, options_at, GivesSpares}
-use Rattle.rounds.specs.declared.round.ReadAhead.{ReadAhead}
+use Rattle.ahead.specs.declared.paused.ReadAhead.{ReadAhead}
 use Rattle.rounds.specs.declared.spares.Spares.{Spares}
-use Rattle.rounds.specs.Filling.{reached, FillsAhead}
+use Rattle.rounds.specs.Filling.{reached}
+use Rattle.ahead.specs.Ahead.{FillsAhead}
 use Rattle.rounds.specs.Lanes.{worked_records, IsKeptWorkOf, WorksAs}
 use Rattle.rounds.specs.Merging.{options_of}
-use Rattle.rounds.specs.Ahead.{round_of}
+use Rattle.ahead.specs.Ahead.{round_of}
 use Rattle.rounds.specs.RoundsState.{BenchState, IntakeState, RestState, RoundsState, WorkedState}
-use Rattle.rounds.proofs.Pausing.{unread_ahead}
+use Rattle.ahead.proofs.Beside.{unread_ahead}
 use Rattle.ahead.specs.Out.{blocks_out, GaveWorked}
 use Rattle.ahead.proofs.ahead.work_listed.Given as given
 use Rattle.ahead.proofs.ahead.work_listed.Goals.{After-work_beside-read}

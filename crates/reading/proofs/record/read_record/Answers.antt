@@ -1,55 +1,75 @@
-use Rattle.std.proofs.Common.{◌≡◌, ◌+◌, ◌-◌, ◌^◌, ◌≤◌, ◌∙◌, ℕ, arith, min, refl, sym, ap, subst, le_trans, le-add_left, Ok, Err}
+use Rattle.std.proofs.Common.{◌≡◌, ◌+◌, ◌-◌, ◌^◌, ◌≤◌, ◌∙◌, ℕ, Option, arith, min, refl, sym, ap, subst, le_trans, le-add_left, Ok, Err}
 use Rattle.block_pool.specs.PoolState.{home}
 use Rattle.block_supply.proofs.Listing.{home_by_ones}
-use Rattle.reading.proofs.Recording.{head_stop_given, head_given, end_given, empty_given, lacking_given, record_given, none_from, keeps_head, never_lacking, never_memory, entered, not_lacking, not_memory, no_stop, rose_after, stop_in}
+use Rattle.reading.proofs.Recording.{head_stop_given, head_given, end_given, empty_given, lacking_given, record_given, none_from, kept_head, never_lacking, never_memory, not_lacking, not_memory, no_stop, rose_after, stop_in}
 use Rattle.pcap_io.specs.declared.heads.Link.{Link}
+use Rattle.pcap_io.specs.declared.heads.RecHead.{RecHead}
+use Rattle.pcap_io.specs.declared.place.Place.{Place}
 use Rattle.pcap_io.specs.Headers.{is_bad_original}
-use Rattle.reading.specs.Reading.{front_size}
+use Rattle.reading.specs.Reading.{front_size, IsAt, KeepsHead}
+use Rattle.reading.proofs.Standing.{at_link, tells_then}
 use Rattle.reading.proofs.record.read_record.Goals as goal
 
 pub returns-in-Err-clause-given : goal.returns-in-Err-clause-given
-returns-in-Err-clause-given g c =
-    head_stop_given _ _ c.args.reader.now.place c.next_head.new.self.place c.args.used c.args.pool.now.made c.args.front.now c.in-Err.fault c.stop_of.result c.requires.few.1 c.stop_of.ensures.stop
-    c.in-Err.ensures.given
+returns-in-Err-clause-given g c = λ at before stands.
+    head_stop_given before _ at c.find_head.new.reader.place c.args.used c.args.pool.now.made c.args.front.now c.in-Err.fault c.stop_of.result c.requires.few.1 c.stop_of.ensures.stop
+    (c.in-Err.ensures.given at before stands)
 
 pub returns-in-Err-clause-kept : goal.returns-in-Err-clause-kept
 returns-in-Err-clause-kept g c = λ lacks. absurd (never_lacking _ c.in-Err.fault c.stop_of.result refl c.stop_of.ensures.stop lacks)
+
+pub returns-in-Err-clause-stands : goal.returns-in-Err-clause-stands
+returns-in-Err-clause-stands g c = λ lacks. absurd (never_lacking _ c.in-Err.fault c.stop_of.result refl c.stop_of.ensures.stop lacks)
 
 pub returns-in-Err-clause-refused : goal.returns-in-Err-clause-refused
 returns-in-Err-clause-refused g c = λ lacks. absurd (never_lacking _ c.in-Err.fault c.stop_of.result refl c.stop_of.ensures.stop lacks)
 
 pub returns-in_default-clause-given : goal.returns-in_default-clause-given
-returns-in_default-clause-given g c =
-    end_given _ _ c.args.reader.now.place c.next_head.new.self.place c.args.used c.args.pool.now.made c.args.front.now c.in-Ok.found (none_from c.in-Ok.found c.in_default.not-Some)
-    c.in-Ok.ensures.given
+returns-in_default-clause-given g c = λ at before stands.
+    end_given before _ at c.find_head.new.reader.place c.args.used c.args.pool.now.made c.args.front.now c.in-Ok.found (none_from c.in-Ok.found c.in_default.not-Some)
+    (c.in-Ok.ensures.given at before stands)
 
 pub returns-in_default-clause-kept : goal.returns-in_default-clause-kept
 returns-in_default-clause-kept g c = λ lacks. absurd (not_lacking _ refl lacks)
 
+pub returns-in_default-clause-stands : goal.returns-in_default-clause-stands
+returns-in_default-clause-stands g c = λ lacks. absurd (not_lacking _ refl lacks)
+
 pub returns-then-need-made-clause-kept : goal.returns-then-need-made-clause-kept
 returns-then-need-made-clause-kept g c = λ lacks. absurd (not_lacking _ refl lacks)
 
+pub returns-then-need-made-clause-stands : goal.returns-then-need-made-clause-stands
+returns-then-need-made-clause-stands g c = λ lacks. absurd (not_lacking _ refl lacks)
+
+-- the record's own link is the reader's
+front_at : (kept : Option RecHead) (at place : Place) (n : ℕ) → IsAt kept at place → n ≡ front_size place.link → n ≡ front_size at.link
+front_at kept at place n is front = front ∙ ap front_size (at_link kept at place is)
+
 pub returns-then-need-made-clause-given : goal.returns-then-need-made-clause-given
-returns-then-need-made-clause-given g c =
-    empty_given _ _ c.args.reader.now.place c.next_head.new.self.place c.args.used c.args.pool.now.made _ c.args.front.now c.in-Ok.found c.in-Some.head c.in-Some.is c.in-Ok.ensures.enters
-    (omega (arith, c.blocks_of-count.ensures.blocks, c.requires.front)) (omega (arith, c.if-need-made.true, c.made.ensures.made)) c.in-Ok.ensures.given
+returns-then-need-made-clause-given g c = λ at before stands.
+    let front = front_at c.args.kept.now at c.args.reader.now.place _ stands.is c.requires.front in
+    empty_given before _ at c.find_head.new.reader.place c.args.used c.args.pool.now.made _ c.args.front.now c.in-Ok.found c.in-Some.head c.in-Some.is (c.in-Ok.ensures.keeps at stands.is)
+    (omega (arith, c.blocks_of-count.ensures.blocks, front)) (omega (arith, c.if-need-made.true, c.made.ensures.made)) (c.in-Ok.ensures.given at before stands)
 
 pub returns-then-not-has_blocks-clause-given : goal.returns-then-not-has_blocks-clause-given
-returns-then-not-has_blocks-clause-given g c =
-    lacking_given _ _ c.args.reader.now.place c.next_head.new.self.place c.args.used c.args.pool.now.made c.args.front.now c.in-Some.head
-    (head_given _ _ c.args.reader.now.place c.in-Ok.found c.in-Some.head c.in-Some.is c.in-Ok.ensures.given)
+returns-then-not-has_blocks-clause-given g c = λ at before stands.
+    lacking_given before _ at c.find_head.new.reader.place c.args.used c.args.pool.now.made c.args.front.now c.in-Some.head
+    (head_given before _ at c.in-Ok.found c.in-Some.head c.in-Some.is (c.in-Ok.ensures.given at before stands))
+
+pub returns-then-not-has_blocks-clause-stands : goal.returns-then-not-has_blocks-clause-stands
+returns-then-not-has_blocks-clause-stands g c = λ _ at before stands. record {
+  is = kept_head at c.find_head.new.reader.place c.in-Ok.found c.in-Some.head c.in-Some.is (c.in-Ok.ensures.keeps at stands.is);
+  told = head_given before _ at c.in-Ok.found c.in-Some.head c.in-Some.is (c.in-Ok.ensures.given at before stands);
+}
 
 pub returns-then-not-has_blocks-clause-kept : goal.returns-then-not-has_blocks-clause-kept
-returns-then-not-has_blocks-clause-kept g c = λ _.
-    let r = c.in-Ok.ensures in (
-      c.in-Some.head,
-      refl,
-      keeps_head c.args.reader.now.place c.next_head.new.self.place c.in-Ok.found c.in-Some.head c.in-Some.is c.requires.ready r.enters r.limit r.original r.off_head r.counted,
-      omega (arith, c.blocks_of-count.ensures.blocks, c.if-not-has_blocks.ensures.enough),
-      omega (arith, c.blocks_of-count.ensures.blocks, c.if-need-made.false, c.made.ensures.made),
-      c.has_blocks.ensures.same.1,
-      head_given _ _ c.args.reader.now.place c.in-Ok.found c.in-Some.head c.in-Some.is r.given,
-    )
+returns-then-not-has_blocks-clause-kept g c = λ _. (
+  c.in-Some.head,
+  refl,
+  omega (arith, c.blocks_of-count.ensures.blocks, c.if-not-has_blocks.ensures.enough),
+  omega (arith, c.blocks_of-count.ensures.blocks, c.if-need-made.false, c.made.ensures.made),
+  c.has_blocks.ensures.same.1,
+)
 
 pub returns-then-not-has_blocks-clause-refused : goal.returns-then-not-has_blocks-clause-refused
 returns-then-not-has_blocks-clause-refused g c = λ _.
@@ -66,17 +86,17 @@ returns-then-not-has_blocks-clause-failed g c = λ fails. absurd (not_lacking _ 
 
 pub finish_record-requires-clause-kept : goal.finish_record-requires-clause-kept
 finish_record-requires-clause-kept g c =
-    let r = c.in-Ok.ensures in (
-      c.args.reader.now.place,
-      keeps_head c.args.reader.now.place c.next_head.new.self.place c.in-Ok.found c.in-Some.head c.in-Some.is c.requires.ready r.enters r.limit r.original r.off_head r.counted,
-    )
+    let at = c.requires.stands in
+    (at.0, kept_head at.0 c.find_head.new.reader.place c.in-Ok.found c.in-Some.head c.in-Some.is (c.in-Ok.ensures.keeps at.0 at.1))
 
 pub finish_record-requires-clause-home : goal.finish_record-requires-clause-home
 finish_record-requires-clause-home g c = (omega (arith, c.blocks_of-count.ensures.blocks, c.if-not-has_blocks.ensures.enough), c.has_blocks.ensures.within)
 
 pub finish_record-requires-clause-front : goal.finish_record-requires-clause-front
 finish_record-requires-clause-front g c =
-    c.requires.front ∙ ap front_size (sym (entered c.args.reader.now.place c.next_head.new.self.place c.in-Ok.found c.in-Some.head c.in-Some.is c.in-Ok.ensures.enters).link)
+    let at = c.requires.stands in
+    let keeps = kept_head at.0 c.find_head.new.reader.place c.in-Ok.found c.in-Some.head c.in-Some.is (c.in-Ok.ensures.keeps at.0 at.1) in
+    front_at c.args.kept.now at.0 c.args.reader.now.place _ at.1 c.requires.front ∙ ap front_size (sym keeps.enters.link)
 
 -- what came with the blocks of a supply weighs in a later sum too
 moved_on : (all pool spares was came old : ℕ) → all ≡ pool + spares → pool + was ≡ old + came → all + was ≡ old + spares + came
@@ -94,32 +114,37 @@ returns-in-Ok-finish_record g c =
     let e = c.in-Ok-finish_record.ensures in
     let more = c.has_blocks.ensures in
     let brought = g.H.Supply.weights c.args.more.now (λ _. 1) in
-    let keeps = keeps_head old c.next_head.new.self.place c.in-Ok.found c.in-Some.head c.in-Some.is c.requires.ready r.enters r.limit r.original r.off_head r.counted in
-    let enters = keeps.enters in
+    let keeps : (at : Place) → IsAt c.args.kept.now at old → KeepsHead at c.find_head.new.reader.place c.in-Some.head
+    = λ at is. kept_head at c.find_head.new.reader.place c.in-Ok.found c.in-Some.head c.in-Some.is (r.keeps at is) in
+    let begins = c.requires.stands in
+    let link : c.find_head.new.reader.place.link ≡ old.link = (keeps begins.0 begins.1).enters.link ∙ sym (at_link c.args.kept.now begins.0 old begins.1) in
     let fits = subst (λ (n : ℕ). c.args.used + (c.blocks_of-count.result + 2) ≤ n) c.made.ensures.made c.if-need-made.false in
     let needed = subst (λ (n : ℕ). c.args.used + (n + 2) ≤ made) c.blocks_of-count.ensures.blocks fits in
     let count = e.count.0 ∙ ap (λ (n : ℕ). n + 2) (sym c.blocks_of-count.ensures.blocks) in
     record {
       same_source = e.same_source ∙ r.same_source;
-      given = λ p is.
-          record_given _ _ _ old f.reader.place c.args.used made f.front c.in-Ok.found c.in-Some.head (Ok p) c.in-Some.is r.given (e.given old c.args.used made keeps needed p is);
-      next = e.next old keeps;
+      tells = tells_then _ _ _ _ r.tells (e.given begins.0 c.args.used made (keeps begins.0 begins.1) needed e.one.0 e.one.1);
+      given = λ at before stands. λ p is.
+          record_given before _ _ at f.reader.place c.args.used made f.front c.in-Ok.found c.in-Some.head (Ok p) c.in-Some.is (r.given at before stands)
+          (e.given at c.args.used made (keeps at stands.is) needed p is);
+      next = λ at begin. e.next at (keeps at begin);
       front = e.front;
       one = e.one;
       none = tt;
+      stands = λ lacks. absurd (not_lacking _ refl lacks);
       kept = λ lacks. absurd (not_lacking _ refl lacks);
-      unkept = λ _. refl;
+      unkept = λ _. r.none;
       whole = λ short. absurd (no_stop _ _ short);
       refused = λ lacks. absurd (not_lacking _ refl lacks);
       asked = more.asked;
       room = e.room;
-      number = λ p is. e.number p is ∙ enters.numbered;
-      original = λ p is. ap (λ (l : Link). is_bad_original l p.original) (sym enters.link) ∙ e.original p is;
-      offset = enters.lies;
-      behind = λ p is. let behind = e.behind p is in behind.0 ∙ enters.offset ∙ ap (λ (n : ℕ). old.offset + 16 + n) (sym behind.1);
+      number = λ at begin. λ p is. e.number p is ∙ (keeps at begin).enters.numbered;
+      original = λ p is. ap (λ (l : Link). is_bad_original l p.original) (sym link) ∙ e.original p is;
+      offset = λ at begin. (keeps at begin).enters.lies;
+      behind = λ at begin. λ p is. let behind = e.behind p is in behind.0 ∙ (keeps at begin).enters.offset ∙ ap (λ (n : ℕ). at.offset + 16 + n) (sym behind.1);
       laid = e.laid;
       read = e.read;
-      captured = λ p is plain. e.captured p is (enters.link ∙ plain);
+      captured = λ p is plain. e.captured p is (link ∙ plain);
       need = e.need;
       count = λ p is. e.count.1 p is ∙ count;
       home = ap (λ (n : ℕ). home f.pool + n + brought) (sym count) ∙ ap (λ (n : ℕ). n + brought) e.home ∙ home_by_ones _ _ c.args.pool.now.blocks c.has_blocks.new.pool.blocks (more.named (λ _. 1));
@@ -146,26 +171,32 @@ returns-in-Err-finish_record g c =
     let f = c.finish_record.new in
     let e = c.in-Err-finish_record.ensures in
     let more = c.has_blocks.ensures in
-    let keeps = keeps_head old c.next_head.new.self.place c.in-Ok.found c.in-Some.head c.in-Some.is c.requires.ready r.enters r.limit r.original r.off_head r.counted in
+    let keeps : (at : Place) → IsAt c.args.kept.now at old → KeepsHead at c.find_head.new.reader.place c.in-Some.head
+    = λ at is. kept_head at c.find_head.new.reader.place c.in-Ok.found c.in-Some.head c.in-Some.is (r.keeps at is) in
     let fits = subst (λ (n : ℕ). c.args.used + (c.blocks_of-count.result + 2) ≤ n) c.made.ensures.made c.if-need-made.false in
+    let begins = c.requires.stands in
     let needed = subst (λ (n : ℕ). c.args.used + (n + 2) ≤ made) c.blocks_of-count.ensures.blocks fits in
     record {
       same_source = e.same_source ∙ r.same_source;
-      given = record_given _ _ _ old f.reader.place c.args.used made f.front c.in-Ok.found c.in-Some.head (Err c.in-Err-finish_record.stop) c.in-Some.is r.given (e.given old c.args.used made keeps needed);
-      next = tt;
+      tells = tells_then _ _ _ _ r.tells (e.given begins.0 c.args.used made (keeps begins.0 begins.1) needed);
+      given = λ at before stands.
+          record_given before _ _ at f.reader.place c.args.used made f.front c.in-Ok.found c.in-Some.head (Err c.in-Err-finish_record.stop) c.in-Some.is (r.given at before stands)
+          (e.given at c.args.used made (keeps at stands.is) needed);
+      next = λ at begin. tt;
       front = e.front;
       one = tt;
       none = e.none;
+      stands = λ lacks. absurd (e.begun (ap Err (ap stop_in lacks)));
       kept = λ lacks. absurd (e.begun (ap Err (ap stop_in lacks)));
-      unkept = λ _. refl;
+      unkept = λ _. r.none;
       whole = λ short. e.whole (ap Err (ap stop_in short));
       refused = λ lacks. absurd (e.begun (ap Err (ap stop_in lacks)));
       asked = more.asked;
       room = e.room;
-      number = tt;
+      number = λ at begin. tt;
       original = tt;
-      offset = tt;
-      behind = tt;
+      offset = λ at begin. tt;
+      behind = λ at begin. tt;
       laid = tt;
       read = tt;
       captured = tt;

@@ -1,7 +1,7 @@
 use Rattle.std.proofs.Common.{◌≡◌, rules, subst, ◌∙◌}
 use Rattle.pcap_io.specs.declared.heads.Link.TheVariants.{Ethernet}
-use Rattle.rounds.specs.Ahead.{IfPaused, Waits}
-use Rattle.rounds.specs.declared.round.ReadAhead.{ReadAhead}
+use Rattle.ahead.specs.Ahead.{IfPaused, Waits}
+use Rattle.ahead.specs.declared.paused.ReadAhead.{ReadAhead}
 use Rattle.engine_tests.proofs.reading_beside.beside_work.turn.Goals as goal
 
 pub returns-in-Paused-clause-ready : goal.returns-in-Paused-clause-ready

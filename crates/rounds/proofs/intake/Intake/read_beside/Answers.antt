@@ -1,152 +1,165 @@
-use Rattle.std.proofs.Common.{ℕ, ◌≡◌, ◌+◌, ◌-◌, ◌^◌, ◌<◌, ◌≤◌, min, length, map, inr, ap, arith, sym, ◌∙◌, subst}
-use Rattle.std.proofs.Math.Nat.{le_trans}
-use Rattle.block_pool.specs.PoolState.{weighed}
-use Rattle.std.specs.List.{AllByRecursion}
-use Rattle.offload_model.specs.Captured.{IsCaptured}
-use Rattle.offload_model.specs.Need.{need_of, round_need}
-use Rattle.gro.specs.Slots.{packet_of}
-use Rattle.rounds.specs.Filling.{reached, FillsAhead, FillsBehind}
-use Rattle.rounds.specs.RoundOf.{brought_by, Came}
+use Rattle.std.proofs.Common.{ap, length, arith, sym, refl, ◌∙◌, subst}
+use Rattle.off_io.proofs.Telling.{Told-weaker}
+use Rattle.pcap_io.specs.Reading.{Loses}
+use Rattle.rounds.specs.Filling.{reached}
+use Rattle.rounds.specs.Fresh.{NumberedFrom}
+use Rattle.rounds.specs.Reading.{GivesRound}
 use Rattle.rounds.specs.RoundsState.{RoundState}
-use Rattle.rounds.specs.Weights.{weights_of}
-use Rattle.rounds.specs.declared.round.ReadAhead.TheVariants.{Read}
+use Rattle.rounds.specs.declared.round.Halt.TheVariants.{Ended}
 use Rattle.rounds.specs.declared.round.RoundEnd.TheVariants.{GivenUp}
-use Rattle.rounds.proofs.Counting.{came_on}
-use Rattle.rounds.proofs.Pausing.{came_then, given_up_behind, memory_between, never_given_up, no_memory_goes, rest_ahead}
-use Rattle.rounds.proofs.intake.Intake.read_beside.Given as given
-use Rattle.rounds.proofs.intake.Intake.read_beside.Goals.{After-bring_rest, After-into_round, After-go_on}
+use Rattle.rounds.proofs.Pausing.{fills_ended, lacking_from, stands_begun, stands_link, stands_lost}
 use Rattle.rounds.proofs.intake.Intake.read_beside.Goals as goal
 
--- where all other blocks came home, what the round and its rest come to
-fills_on : (g : given.Over) (c : After-go_on g) → FillsAhead c.args.self.now.blocks c.args.self.now.budget (reached g.S.Source.left g.S.Source.faults c.args.reader.now)
-    (reached g.S.Source.left g.S.Source.faults c.go_on.new.reader) (Read c.go_on.result)
-fills_on g c =
-    let u = c.read_ahead-ahead in
-    let f = c.in-Paused.ensures.fills in
-    let p = c.in-Paused.paused in
-    let b = c.bring_rest in
-    let r = c.go_on in
-    let mid = reached g.S.Source.left g.S.Source.faults u.new.reader in
-    let to = reached g.S.Source.left g.S.Source.faults r.new.reader in
-    rest_ahead c.args.self.now.blocks c.args.self.now.budget (reached g.S.Source.left g.S.Source.faults c.args.reader.now) mid to p r.result f.waits f.reads.numbers f.later
-    (subst (λ (n : ℕ). FillsBehind n c.args.self.now.budget mid to p.head p.round.packets r.result.round.packets r.result.end) (b.ensures.same.0 ∙ u.ensures.same.0)
-    (subst (λ (n : ℕ). FillsBehind b.new.self.blocks n mid to p.head p.round.packets r.result.round.packets r.result.end) (b.ensures.same.2 ∙ u.ensures.same.1) r.ensures.fills)) r.ensures.captured
-    r.ensures.need
+pub read-requires-clause-stands : goal.read-requires-clause-stands
+read-requires-clause-stands g c =
+    let here = reached g.S.Source.left g.S.Source.faults c.args.reader.now in
+    (here, (here.place, stands_begun _ here c.in-Ok.round c.requires.ready c.in-Ok.ensures.begun))
 
-came_on_home : (g : given.Over) (c : After-go_on g) → Came (brought_by g.H.Supply.weights g.H.Supply.refusals c.args.more.now) (brought_by g.H.Supply.weights g.H.Supply.refusals c.bring_rest.new.more) c.args.self.now.home
-    (c.go_on.new.self.home + c.go_on.result.round.blocks) (λ h. weighed h c.args.self.now.stock) (λ h. weighed h c.go_on.new.self.stock + weights_of c.go_on.result.round h)
-came_on_home g c =
-    let b = c.bring_rest in
-    let r = c.go_on in
-    let p = c.in-Paused.paused.round in
-    let out = ap (λ (n : ℕ). b.new.self.home + n) (sym c.blocks-used.ensures.blocks) ∙ b.ensures.all c.if-bring_rest.true ∙ sym b.ensures.same.0 in
-    came_then _ _ _ _ _ _ _ _ _ c.in-Paused.ensures.came
-    (came_on _ _ c.read_ahead-ahead.new.self.home b.new.self.home r.new.self.home p.blocks r.result.round.blocks (λ h. weighed h c.read_ahead-ahead.new.self.stock) (λ h. weighed h b.new.self.stock)
-    (λ h. weighed h r.new.self.stock) (weights_of p) (weights_of r.result.round) b.ensures.came (r.ensures.home ∙ sym out) r.ensures.named)
+pub read-requires-clause-fewer : goal.read-requires-clause-fewer
+read-requires-clause-fewer g c = omega (arith, ap length c.in-Ok.ensures.begun.none, c.begin.ensures.budget.0)
 
-pub go_on-requires-clause-kept : goal.go_on-requires-clause-kept
-go_on-requires-clause-kept g c =
-    let w = c.in-Paused.ensures.fills.waits in
-    (w.at, (w.keeps, w.numbers))
+pub returns-in-Ended-clause-given : goal.returns-in-Ended-clause-given
+returns-in-Ended-clause-given g c =
+    let here = reached g.S.Source.left g.S.Source.faults c.args.reader.now in
+    let begun = stands_begun _ here c.in-Ok.round c.requires.ready c.in-Ok.ensures.begun in
+    let to = reached g.S.Source.left g.S.Source.faults c.read.new.reader in
+    let same = ap (λ (r : RoundState). r.packets) c.into_round-round.ensures.same in
+    let f = fills_ended here here.place to c.read.new.round.round.packets c.into_round-round.result.packets (Ended c.in-Ended.end) c.in-Ended.end refl refl refl same (c.in-Ended.ensures.fills here here.place begun) in
+    f.given
 
-pub go_on-requires-clause-out : goal.go_on-requires-clause-out
-go_on-requires-clause-out g c =
-    let b = c.bring_rest in
-    ap (λ (n : ℕ). b.new.self.home + n) (sym c.blocks-used.ensures.blocks) ∙ b.ensures.all c.if-bring_rest.true ∙ sym b.ensures.same.0
+pub returns-in-Ended-clause-full : goal.returns-in-Ended-clause-full
+returns-in-Ended-clause-full g c =
+    let here = reached g.S.Source.left g.S.Source.faults c.args.reader.now in
+    let begun = stands_begun _ here c.in-Ok.round c.requires.ready c.in-Ok.ensures.begun in
+    let to = reached g.S.Source.left g.S.Source.faults c.read.new.reader in
+    let same = ap (λ (r : RoundState). r.packets) c.into_round-round.ensures.same in
+    let f = fills_ended here here.place to c.read.new.round.round.packets c.into_round-round.result.packets (Ended c.in-Ended.end) c.in-Ended.end refl refl refl same (c.in-Ended.ensures.fills here here.place begun) in
+    λ full. f.full (ap Ended full)
 
-pub go_on-requires-clause-fits : goal.go_on-requires-clause-fits
-go_on-requires-clause-fits g c =
-    let p = c.in-Paused.paused in
-    subst (λ (n : ℕ). p.round.blocks + need_of p.head.captured ≤ n) (sym (c.bring_rest.ensures.same.0 ∙ c.read_ahead-ahead.ensures.same.0)) c.in-Paused.ensures.paused.fits
+pub returns-in-Ended-clause-numbers : goal.returns-in-Ended-clause-numbers
+returns-in-Ended-clause-numbers g c =
+    let here = reached g.S.Source.left g.S.Source.faults c.args.reader.now in
+    let begun = stands_begun _ here c.in-Ok.round c.requires.ready c.in-Ok.ensures.begun in
+    let to = reached g.S.Source.left g.S.Source.faults c.read.new.reader in
+    let same = ap (λ (r : RoundState). r.packets) c.into_round-round.ensures.same in
+    let f = fills_ended here here.place to c.read.new.round.round.packets c.into_round-round.result.packets (Ended c.in-Ended.end) c.in-Ended.end refl refl refl same (c.in-Ended.ensures.fills here here.place begun) in
+    f.numbers
 
-pub go_on-requires-clause-fewer : goal.go_on-requires-clause-fewer
-go_on-requires-clause-fewer g c =
-    subst (λ (n : ℕ). length c.in-Paused.paused.round.packets < n) (sym (c.bring_rest.ensures.same.2 ∙ c.read_ahead-ahead.ensures.same.1)) c.in-Paused.ensures.fills.waits.fewer
+pub returns-in-Ended-clause-later : goal.returns-in-Ended-clause-later
+returns-in-Ended-clause-later g c =
+    let here = reached g.S.Source.left g.S.Source.faults c.args.reader.now in
+    let begun = stands_begun _ here c.in-Ok.round c.requires.ready c.in-Ok.ensures.begun in
+    let to = reached g.S.Source.left g.S.Source.faults c.read.new.reader in
+    let same = ap (λ (r : RoundState). r.packets) c.into_round-round.ensures.same in
+    let f = fills_ended here here.place to c.read.new.round.round.packets c.into_round-round.result.packets (Ended c.in-Ended.end) c.in-Ended.end refl refl refl same (c.in-Ended.ensures.fills here here.place begun) in
+    f.later
 
-pub returns-then-bring_rest : goal.returns-then-bring_rest
-returns-then-bring_rest g c =
-    let at = (goal.at.returns-then-bring_rest g c).After-go_on in
-    let f = fills_on g at in
-    let came = came_on_home g at in
-    let u = c.read_ahead-ahead.ensures in
-    let b = c.bring_rest.ensures in
-    let r = c.go_on.ensures in
-    record {
-      same_source = r.same_source ∙ u.same_source;
-      given = f.given;
-      size = f.reads.size;
-      fewer = f.reads.fewer;
-      full = f.reads.full;
-      captured = f.reads.captured;
-      numbers = f.reads.numbers;
-      need = f.reads.need;
-      sum = came.sum;
-      named = came.named;
-      within = omega (arith, r.takes.within, b.same.0, u.same.0);
-      same = (r.same.0 ∙ b.same.0 ∙ u.same.0, r.same.1 ∙ b.same.2 ∙ u.same.1, r.same.2 ∙ b.same.3 ∙ u.same.2);
-      paused = inr (r.same.3 ∙ b.paused ∙ ap (λ (n : ℕ). min (n + 1) (2 ^ 64 - 1)) u.same.3, le_trans c.in-Paused.ensures.refused b.came.asked);
-      later_pauses = omega (arith, r.same.3, b.later, u.same.3);
-      asked = came.asked;
-      budget = u.budget;
-      taken = omega (arith, c.in-Paused.ensures.takes.taken, r.takes.taken, r.takes.least.0, b.same.1);
-      least = omega (arith, c.in-Paused.ensures.takes.least.1, r.takes.least.1, b.same.1);
-      later = f.later;
-      given_up = λ up. absurd (never_given_up c.go_on.result.end _ r.stands up);
-      whole = memory_between c.go_on.result.end _ r.stands;
-      failed = f.failed;
-    }
+pub returns-in-Ended-clause-failed : goal.returns-in-Ended-clause-failed
+returns-in-Ended-clause-failed g c =
+    let here = reached g.S.Source.left g.S.Source.faults c.args.reader.now in
+    let begun = stands_begun _ here c.in-Ok.round c.requires.ready c.in-Ok.ensures.begun in
+    let to = reached g.S.Source.left g.S.Source.faults c.read.new.reader in
+    let same = ap (λ (r : RoundState). r.packets) c.into_round-round.ensures.same in
+    let f = fills_ended here here.place to c.read.new.round.round.packets c.into_round-round.result.packets (Ended c.in-Ended.end) c.in-Ended.end refl refl refl same (c.in-Ended.ensures.fills here here.place begun) in
+    λ fault. f.failed (ap Ended fault)
 
--- where they don't come it ends
-fills_none : (g : given.Over) (c : After-into_round g) → FillsAhead c.args.self.now.blocks c.args.self.now.budget (reached g.S.Source.left g.S.Source.faults c.args.reader.now)
-    (reached g.S.Source.left g.S.Source.faults c.read_ahead-ahead.new.reader) (Read (record { round = c.into_round.result; end = GivenUp }))
-fills_none g c =
-    let u = c.read_ahead-ahead in
-    let e = c.in-Paused.ensures in
-    let p = c.in-Paused.paused in
-    let mid = reached g.S.Source.left g.S.Source.faults u.new.reader in
-    let is = c.into_round.ensures.same in
-    rest_ahead c.args.self.now.blocks c.args.self.now.budget (reached g.S.Source.left g.S.Source.faults c.args.reader.now) mid mid p (record { round = c.into_round.result; end = GivenUp }) e.fills.waits
-    e.fills.reads.numbers e.fills.later
-    (given_up_behind c.args.self.now.blocks c.args.self.now.budget mid p.head p.round.packets c.into_round.result.packets (ap (λ (r : RoundState). r.packets) is) e.fills.waits.fewer)
-    (subst (λ (r : RoundState). AllByRecursion IsCaptured (map packet_of r.packets)) (sym is) e.fills.reads.captured) (subst (λ (r : RoundState). r.blocks ≡ round_need (map packet_of r.packets)) (sym is) e.fills.reads.need)
+pub returns-then-not-bring_rest-clause-given : goal.returns-then-not-bring_rest-clause-given
+returns-then-not-bring_rest-clause-given g c =
+    let here = reached g.S.Source.left g.S.Source.faults c.args.reader.now in
+    let begun = stands_begun _ here c.in-Ok.round c.requires.ready c.in-Ok.ensures.begun in
+    let mid = reached g.S.Source.left g.S.Source.faults c.read.new.reader in
+    let waits = (c.read.ensures.fills here here.place begun).waits (lacking_from c.read.result c.in_default.not-Ended) in
+    let round = c.into_round-round-then-not-bring_rest.result.packets in
+    Told-weaker here.left mid.left Loses (GivesRound c.args.self.now.blocks here.place mid.place round GivenUp) (λ bytes left loses. loses) (stands_lost here here.place mid _ _ waits)
 
-pub returns : goal.returns
-returns g c =
-    let f = fills_none g (goal.at.returns g c).After-into_round in
-    let u = c.read_ahead-ahead.ensures in
-    let b = c.bring_rest.ensures in
-    let e = c.in-Paused.ensures in
-    let is = c.into_round.ensures.same in
-    record {
-      same_source = u.same_source;
-      given = f.given;
-      size = f.reads.size;
-      fewer = f.reads.fewer;
-      full = f.reads.full;
-      captured = f.reads.captured;
-      numbers = f.reads.numbers;
-      need = f.reads.need;
-      sum = omega (arith, e.came.sum, b.came.sum, ap (λ (r : RoundState). r.blocks) is);
-      named = λ h. omega (arith, e.came.named h, b.came.named h, ap (λ (r : RoundState). weights_of r h) is);
-      within = omega (arith, e.takes.within, ap (λ (r : RoundState). r.blocks) is);
-      same = (b.same.0 ∙ u.same.0, b.same.2 ∙ u.same.1, b.same.3 ∙ u.same.2);
-      paused = inr (b.paused ∙ ap (λ (n : ℕ). min (n + 1) (2 ^ 64 - 1)) u.same.3, le_trans e.refused b.came.asked);
-      later_pauses = omega (arith, b.later, u.same.3);
-      asked = le_trans e.came.asked b.came.asked;
-      budget = u.budget;
-      taken = omega (arith, e.takes.taken, b.same.1, ap (λ (r : RoundState). r.blocks) is);
-      least = omega (arith, e.takes.least.1, b.same.1);
-      later = f.later;
-      given_up = λ up. b.ended c.if-bring_rest.false;
-      whole = λ short. absurd (no_memory_goes (sym short));
-      failed = f.failed;
-    }
+pub returns-then-not-bring_rest-clause-numbers : goal.returns-then-not-bring_rest-clause-numbers
+returns-then-not-bring_rest-clause-numbers g c =
+    let here = reached g.S.Source.left g.S.Source.faults c.args.reader.now in
+    let begun = stands_begun _ here c.in-Ok.round c.requires.ready c.in-Ok.ensures.begun in
+    let mid = reached g.S.Source.left g.S.Source.faults c.read.new.reader in
+    let waits = (c.read.ensures.fills here here.place begun).waits (lacking_from c.read.result c.in_default.not-Ended) in
+    subst (λ (r : RoundState). NumberedFrom here.place.number r.packets) (sym c.into_round-round-then-not-bring_rest.ensures.same) waits.numbers
 
-pub returns-in-Read-clause-given_up : goal.returns-in-Read-clause-given_up
-returns-in-Read-clause-given_up g c = λ up. absurd (never_given_up c.in-Read.read.end _ c.in-Read.ensures.stands up)
+pub returns-then-not-bring_rest-clause-later : goal.returns-then-not-bring_rest-clause-later
+returns-then-not-bring_rest-clause-later g c =
+    let here = reached g.S.Source.left g.S.Source.faults c.args.reader.now in
+    let begun = stands_begun _ here c.in-Ok.round c.requires.ready c.in-Ok.ensures.begun in
+    let mid = reached g.S.Source.left g.S.Source.faults c.read.new.reader in
+    let waits = (c.read.ensures.fills here here.place begun).waits (lacking_from c.read.result c.in_default.not-Ended) in
+    waits.later
 
-pub returns-in-Read-clause-whole : goal.returns-in-Read-clause-whole
-returns-in-Read-clause-whole g c = memory_between c.in-Read.read.end _ c.in-Read.ensures.stands
+pub read-halt-requires-clause-stands : goal.read-halt-requires-clause-stands
+read-halt-requires-clause-stands g c =
+    let here = reached g.S.Source.left g.S.Source.faults c.args.reader.now in
+    let begun = stands_begun _ here c.in-Ok.round c.requires.ready c.in-Ok.ensures.begun in
+    let mid = reached g.S.Source.left g.S.Source.faults c.read.new.reader in
+    let waits = (c.read.ensures.fills here here.place begun).waits (lacking_from c.read.result c.in_default.not-Ended) in
+    (here, (here.place, waits))
 
-pub go_on-requires-clause-room : goal.go_on-requires-clause-room
-go_on-requires-clause-room g c = omega (arith, c.in-Paused.ensures.room, c.bring_rest.ensures.same.2, c.read_ahead-ahead.ensures.same.1)
+pub read-halt-requires-clause-link : goal.read-halt-requires-clause-link
+read-halt-requires-clause-link g c =
+    let here = reached g.S.Source.left g.S.Source.faults c.args.reader.now in
+    let begun = stands_begun _ here c.in-Ok.round c.requires.ready c.in-Ok.ensures.begun in
+    let mid = reached g.S.Source.left g.S.Source.faults c.read.new.reader in
+    let waits = (c.read.ensures.fills here here.place begun).waits (lacking_from c.read.result c.in_default.not-Ended) in
+    stands_link here here.place mid _ _ waits ∙ c.requires.link
+
+pub returns-clause-given : goal.returns-clause-given
+returns-clause-given g c =
+    let here = reached g.S.Source.left g.S.Source.faults c.args.reader.now in
+    let begun = stands_begun _ here c.in-Ok.round c.requires.ready c.in-Ok.ensures.begun in
+    let mid = reached g.S.Source.left g.S.Source.faults c.read.new.reader in
+    let waits = (c.read.ensures.fills here here.place begun).waits (lacking_from c.read.result c.in_default.not-Ended) in
+    let to = reached g.S.Source.left g.S.Source.faults c.read-halt.new.reader in
+    let same = ap (λ (r : RoundState). r.packets) c.into_round-round-2.ensures.same in
+    let f = fills_ended here here.place to c.read-halt.new.round.round.packets c.into_round-round-2.result.packets c.read-halt.result c.end-end.result (c.bring_rest.ensures.same.0 ∙ c.read.ensures.same.0)
+    (c.bring_rest.ensures.same.2 ∙ c.read.ensures.same.1) c.end-end.ensures.end same (c.read-halt.ensures.fills here here.place waits) in
+    f.given
+
+pub returns-clause-full : goal.returns-clause-full
+returns-clause-full g c =
+    let here = reached g.S.Source.left g.S.Source.faults c.args.reader.now in
+    let begun = stands_begun _ here c.in-Ok.round c.requires.ready c.in-Ok.ensures.begun in
+    let mid = reached g.S.Source.left g.S.Source.faults c.read.new.reader in
+    let waits = (c.read.ensures.fills here here.place begun).waits (lacking_from c.read.result c.in_default.not-Ended) in
+    let to = reached g.S.Source.left g.S.Source.faults c.read-halt.new.reader in
+    let same = ap (λ (r : RoundState). r.packets) c.into_round-round-2.ensures.same in
+    let f = fills_ended here here.place to c.read-halt.new.round.round.packets c.into_round-round-2.result.packets c.read-halt.result c.end-end.result (c.bring_rest.ensures.same.0 ∙ c.read.ensures.same.0)
+    (c.bring_rest.ensures.same.2 ∙ c.read.ensures.same.1) c.end-end.ensures.end same (c.read-halt.ensures.fills here here.place waits) in
+    λ full. f.full (ap Ended full)
+
+pub returns-clause-numbers : goal.returns-clause-numbers
+returns-clause-numbers g c =
+    let here = reached g.S.Source.left g.S.Source.faults c.args.reader.now in
+    let begun = stands_begun _ here c.in-Ok.round c.requires.ready c.in-Ok.ensures.begun in
+    let mid = reached g.S.Source.left g.S.Source.faults c.read.new.reader in
+    let waits = (c.read.ensures.fills here here.place begun).waits (lacking_from c.read.result c.in_default.not-Ended) in
+    let to = reached g.S.Source.left g.S.Source.faults c.read-halt.new.reader in
+    let same = ap (λ (r : RoundState). r.packets) c.into_round-round-2.ensures.same in
+    let f = fills_ended here here.place to c.read-halt.new.round.round.packets c.into_round-round-2.result.packets c.read-halt.result c.end-end.result (c.bring_rest.ensures.same.0 ∙ c.read.ensures.same.0)
+    (c.bring_rest.ensures.same.2 ∙ c.read.ensures.same.1) c.end-end.ensures.end same (c.read-halt.ensures.fills here here.place waits) in
+    f.numbers
+
+pub returns-clause-later : goal.returns-clause-later
+returns-clause-later g c =
+    let here = reached g.S.Source.left g.S.Source.faults c.args.reader.now in
+    let begun = stands_begun _ here c.in-Ok.round c.requires.ready c.in-Ok.ensures.begun in
+    let mid = reached g.S.Source.left g.S.Source.faults c.read.new.reader in
+    let waits = (c.read.ensures.fills here here.place begun).waits (lacking_from c.read.result c.in_default.not-Ended) in
+    let to = reached g.S.Source.left g.S.Source.faults c.read-halt.new.reader in
+    let same = ap (λ (r : RoundState). r.packets) c.into_round-round-2.ensures.same in
+    let f = fills_ended here here.place to c.read-halt.new.round.round.packets c.into_round-round-2.result.packets c.read-halt.result c.end-end.result (c.bring_rest.ensures.same.0 ∙ c.read.ensures.same.0)
+    (c.bring_rest.ensures.same.2 ∙ c.read.ensures.same.1) c.end-end.ensures.end same (c.read-halt.ensures.fills here here.place waits) in
+    f.later
+
+pub returns-clause-failed : goal.returns-clause-failed
+returns-clause-failed g c =
+    let here = reached g.S.Source.left g.S.Source.faults c.args.reader.now in
+    let begun = stands_begun _ here c.in-Ok.round c.requires.ready c.in-Ok.ensures.begun in
+    let mid = reached g.S.Source.left g.S.Source.faults c.read.new.reader in
+    let waits = (c.read.ensures.fills here here.place begun).waits (lacking_from c.read.result c.in_default.not-Ended) in
+    let to = reached g.S.Source.left g.S.Source.faults c.read-halt.new.reader in
+    let same = ap (λ (r : RoundState). r.packets) c.into_round-round-2.ensures.same in
+    let f = fills_ended here here.place to c.read-halt.new.round.round.packets c.into_round-round-2.result.packets c.read-halt.result c.end-end.result (c.bring_rest.ensures.same.0 ∙ c.read.ensures.same.0)
+    (c.bring_rest.ensures.same.2 ∙ c.read.ensures.same.1) c.end-end.ensures.end same (c.read-halt.ensures.fills here here.place waits) in
+    λ fault. f.failed (ap Ended fault)

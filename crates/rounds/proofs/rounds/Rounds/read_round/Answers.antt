@@ -1,24 +1,61 @@
-use Rattle.std.proofs.Common.{◌≡◌, ◌+◌, ◌≤◌, Result, Ok, Err, OnOk, OnErr, ap, arith}
-use Rattle.rounds.specs.Benches.{AreOne, IsSameBench}
-use Rattle.rounds.specs.RoundsState.{BenchState, IntakeState}
+use Rattle.std.proofs.Common.{ap, sym, ◌∙◌}
+use Rattle.rounds.specs.Filling.{reached}
+use Rattle.rounds.specs.RoundsState.{RoundState, RoundsState}
+use Rattle.rounds.specs.declared.round.Halt.TheVariants.{Ended}
+use Rattle.rounds.proofs.Pausing.{fills_ended, stands_begun}
 use Rattle.rounds.proofs.rounds.Rounds.read_round.Goals as goal
 
--- both sides are of the same rounds once more: there are places for all blocks, or none was taken
-one_again : {B E : Type 0} (blank : Result B E) (i i' : IntakeState) (b b' : BenchState) → AreOne i b → IsSameBench b b' → b.room ≤ b'.room → OnOk blank (b'.blocks + b'.blocks ≤ b'.room)
-    → OnErr blank (i' ≡ i) → i'.blocks ≡ i.blocks → i'.budget ≡ i.budget → AreOne i' b'
-one_again {B = B} {E = E} blank i i' b b' one same later room unread blocks budget = record {
-  blocks = omega (arith, one.blocks, ap (λ (x : BenchState). x.blocks) same, blocks);
-  budget = omega (arith, one.budget, ap (λ (x : BenchState). x.budget) same, budget);
-  few = (omega (arith, one.few.0, budget), omega (arith, one.few.1, budget));
-  room = rooms blank room unread;
-}
-  where
-    rooms : (r : Result B E) → OnOk r (b'.blocks + b'.blocks ≤ b'.room) → OnErr r (i' ≡ i) → i'.blocks + i'.blocks ≤ b'.room + (i'.home + i'.home)
-    rooms (Ok x) room unread = omega (arith, room, one.blocks, ap (λ (s : BenchState). s.blocks) same, blocks)
-    rooms (Err x) room unread = omega (arith, one.room, later, blocks, ap (λ (s : IntakeState). s.home) unread)
+pub read-halt-requires-clause-stands : goal.read-halt-requires-clause-stands
+read-halt-requires-clause-stands g c =
+    let here = reached g.S.Source.left g.S.Source.faults c.args.reader.now in
+    (here, (here.place, stands_begun _ here c.in-Ok.round c.requires.ready c.in-Ok.ensures.begun))
 
-pub invariant_of-self : goal.invariant_of-self
-invariant_of-self g c =
-    let t = c.take_blank-blank in
-    let r = c.read_ahead-ahead in
-    one_again t.result c.self.inside.intake r.new.self c.self.inside.bench t.new.self c.self.invariant t.ensures.same t.ensures.later t.ensures.room r.ensures.unread r.ensures.same.0 r.ensures.same.1
+pub returns-clause-given : goal.returns-clause-given
+returns-clause-given g c =
+    let here = reached g.S.Source.left g.S.Source.faults c.args.reader.now in
+    let begun = stands_begun _ here c.in-Ok.round c.requires.ready c.in-Ok.ensures.begun in
+    let to = reached g.S.Source.left g.S.Source.faults c.read-halt.new.reader in
+    let same = ap (λ (r : RoundState). r.packets) c.into_round-round.ensures.same in
+    let f = fills_ended here here.place to c.read-halt.new.round.round.packets c.into_round-round.result.packets c.read-halt.result c.end-end.result (ap (λ (s : RoundsState). s.blocks) c.self.view_is)
+    (sym c.self.invariant.budget ∙ ap (λ (s : RoundsState). s.budget) c.self.view_is) c.end-end.ensures.end same (c.read-halt.ensures.fills here here.place begun) in
+    f.given
+
+pub returns-clause-full : goal.returns-clause-full
+returns-clause-full g c =
+    let here = reached g.S.Source.left g.S.Source.faults c.args.reader.now in
+    let begun = stands_begun _ here c.in-Ok.round c.requires.ready c.in-Ok.ensures.begun in
+    let to = reached g.S.Source.left g.S.Source.faults c.read-halt.new.reader in
+    let same = ap (λ (r : RoundState). r.packets) c.into_round-round.ensures.same in
+    let f = fills_ended here here.place to c.read-halt.new.round.round.packets c.into_round-round.result.packets c.read-halt.result c.end-end.result (ap (λ (s : RoundsState). s.blocks) c.self.view_is)
+    (sym c.self.invariant.budget ∙ ap (λ (s : RoundsState). s.budget) c.self.view_is) c.end-end.ensures.end same (c.read-halt.ensures.fills here here.place begun) in
+    λ full. f.full (ap Ended full)
+
+pub returns-clause-numbers : goal.returns-clause-numbers
+returns-clause-numbers g c =
+    let here = reached g.S.Source.left g.S.Source.faults c.args.reader.now in
+    let begun = stands_begun _ here c.in-Ok.round c.requires.ready c.in-Ok.ensures.begun in
+    let to = reached g.S.Source.left g.S.Source.faults c.read-halt.new.reader in
+    let same = ap (λ (r : RoundState). r.packets) c.into_round-round.ensures.same in
+    let f = fills_ended here here.place to c.read-halt.new.round.round.packets c.into_round-round.result.packets c.read-halt.result c.end-end.result (ap (λ (s : RoundsState). s.blocks) c.self.view_is)
+    (sym c.self.invariant.budget ∙ ap (λ (s : RoundsState). s.budget) c.self.view_is) c.end-end.ensures.end same (c.read-halt.ensures.fills here here.place begun) in
+    f.numbers
+
+pub returns-clause-later : goal.returns-clause-later
+returns-clause-later g c =
+    let here = reached g.S.Source.left g.S.Source.faults c.args.reader.now in
+    let begun = stands_begun _ here c.in-Ok.round c.requires.ready c.in-Ok.ensures.begun in
+    let to = reached g.S.Source.left g.S.Source.faults c.read-halt.new.reader in
+    let same = ap (λ (r : RoundState). r.packets) c.into_round-round.ensures.same in
+    let f = fills_ended here here.place to c.read-halt.new.round.round.packets c.into_round-round.result.packets c.read-halt.result c.end-end.result (ap (λ (s : RoundsState). s.blocks) c.self.view_is)
+    (sym c.self.invariant.budget ∙ ap (λ (s : RoundsState). s.budget) c.self.view_is) c.end-end.ensures.end same (c.read-halt.ensures.fills here here.place begun) in
+    f.later
+
+pub returns-clause-failed : goal.returns-clause-failed
+returns-clause-failed g c =
+    let here = reached g.S.Source.left g.S.Source.faults c.args.reader.now in
+    let begun = stands_begun _ here c.in-Ok.round c.requires.ready c.in-Ok.ensures.begun in
+    let to = reached g.S.Source.left g.S.Source.faults c.read-halt.new.reader in
+    let same = ap (λ (r : RoundState). r.packets) c.into_round-round.ensures.same in
+    let f = fills_ended here here.place to c.read-halt.new.round.round.packets c.into_round-round.result.packets c.read-halt.result c.end-end.result (ap (λ (s : RoundsState). s.blocks) c.self.view_is)
+    (sym c.self.invariant.budget ∙ ap (λ (s : RoundsState). s.budget) c.self.view_is) c.end-end.ensures.end same (c.read-halt.ensures.fills here here.place begun) in
+    λ fault. f.failed (ap Ended fault)

@@ -24,6 +24,7 @@ use Rattle.reading.specs.Reading.{record_of}
 use Rattle.segmenting.specs.SegmentState.{SegmentState}
 use Rattle.segmenting.specs.Segmenting.{IsFaultOf, IsMovedOf, Moves, TakesBy}
 use Rattle.segmenting.proofs.Moving.{moved_given, need_is, next_is, not_moved_given, original_counts, takes_not_moved, takes_one, takes_unmoved, unmoved_given}
+use Rattle.reading.proofs.Standing.{stands_here}
 use Rattle.reading.proofs.Laying.{laid_alone, weighed_none}
 use Rattle.segmenting.proofs.segment.SegmentRun.next.Given as given
 use Rattle.segmenting.proofs.segment.SegmentRun.next.Goals.{After-stopped, Joined-wrote, in-Ok-wrote, in-Err-wrote}
@@ -129,6 +130,9 @@ unread_home g c =
     let e = c.in-Err.ensures in
     unread c.args.self.now c.self.inside.pool c.read_record-read.new.pool c.self.view_is c.requires.home e.back.0 e.made.0 e.least e.most
 
+pub read_record-read-requires-clause-stands : goal.read_record-read-requires-clause-stands
+read_record-read-requires-clause-stands g c = (c.args.reader.now.place, (refl, c.requires.ready))
+
 pub returns-in-Err : goal.returns-in-Err
 returns-in-Err g c =
     let r = c.read_record-read in
@@ -140,13 +144,13 @@ returns-in-Err g c =
     record {
       same_source = e.same_source;
       given = subst (λ (k : ℕ). Told (g.S.Source.left c.args.reader.now.source.now) (g.S.Source.left r.new.reader.source.now) (Moves k c.args.reader.now.place r.new.reader.place h h c.stopped.result)) blocks
-          (unmoved_given _ _ h c.self.inside.pool.made c.args.reader.now.place r.new.reader.place r.new.front c.in-Err.stop c.stopped.result c.requires.link c.stopped.ensures.moved e.given);
+          (unmoved_given _ _ h c.self.inside.pool.made c.args.reader.now.place r.new.reader.place r.new.front c.in-Err.stop c.stopped.result c.requires.link c.stopped.ensures.moved (e.given c.args.reader.now.place (g.S.Source.left c.args.reader.now.source.now) (stands_here c.args.reader.now.place _ c.requires.ready)));
       next = λ one. absurd (to.0 one);
       home = keeps.home;
       named = λ k. omega (arith, (e.named_back k).0, ap (λ (s : SegmentState). weighed k s.stock) c.self.view_is);
       same = keeps.same;
       taken = takes_unmoved _ _ c.self.inside.pool.made c.args.self.now.taken r.new.pool.taken c.args.reader.now.place r.new.reader.place r.new.front c.in-Err.stop c.stopped.result
-          c.stopped.ensures.moved keeps.least e.given;
+          c.stopped.ensures.moved keeps.least (e.given c.args.reader.now.place (g.S.Source.left c.args.reader.now.source.now) (stands_here c.args.reader.now.place _ c.requires.ready));
       least = keeps.least;
       most = keeps.most;
       later = e.later;
@@ -168,6 +172,9 @@ invariant_of-self g c =
       subst (λ (ps : PacketsState). 1 ≤ ps.room) (sym e.none) i.6,
       i.7,
     )
+
+pub returns-clause-next : goal.returns-clause-next
+returns-clause-next g c = λ one. c.in-Ok.ensures.next c.args.reader.now.place (refl, c.requires.ready)
 
 -- the list was empty, and has the record's packet alone
 only : (old new : PacketsState) (p : Held) → old.items ≡ [] → new.items ≡ p ∷ [] → new.items ≡ old.items ++ p ∷ []
@@ -277,18 +284,18 @@ returns-clause-given g c =
       blocks,
       homes,
     ) in
-    let next = next_is made old new front p long fits c.in-Ok.ensures.next.file (c.in-Ok.ensures.behind p is) in
+    let next = next_is made old new front p long fits (c.in-Ok.ensures.next c.args.reader.now.place (refl, c.requires.ready)).file (c.in-Ok.ensures.behind c.args.reader.now.place (refl, c.requires.ready) p is) in
     let wrote = subst (λ (f : FileHead). WritesRecord f.order (record_of front p) h k w.result) c.file-file.ensures.file w.ensures.writes in
     elim c.match-wrote.branch [
       | in-Ok-wrote b ↦
           subst (λ z. Told (g.S.Source.left c.args.reader.now.source.now) (g.S.Source.left r.new.reader.source.now) (Moves c.args.self.now.blocks old new h k z)) (sym b.result-is)
           (subst (λ (n : ℕ). Told (g.S.Source.left c.args.reader.now.source.now) (g.S.Source.left r.new.reader.source.now) (Moves n old new h k (Ok One))) blocks
-          (moved_given _ _ h k made 0 old new front p next (c.in-Ok.ensures.given p is) (subst (WritesRecord old.file.order (record_of front p) h k) b.in-Ok-wrote.is wrote)))
+          (moved_given _ _ h k made 0 old new front p next (c.in-Ok.ensures.given c.args.reader.now.place (g.S.Source.left c.args.reader.now.source.now) (stands_here c.args.reader.now.place _ c.requires.ready) p is) (subst (WritesRecord old.file.order (record_of front p) h k) b.in-Ok-wrote.is wrote)))
       | in-Err-wrote b ↦
           subst (λ z. Told (g.S.Source.left c.args.reader.now.source.now) (g.S.Source.left r.new.reader.source.now) (Moves c.args.self.now.blocks old new h k z)) (sym b.result-is)
           (subst (λ (n : ℕ). Told (g.S.Source.left c.args.reader.now.source.now) (g.S.Source.left r.new.reader.source.now) (Moves n old new h k (Err b.fault_of.result))) blocks
-          (not_moved_given _ _ h k made 0 c.in-Ok.offset p.number old new front p b.in-Err-wrote.refused b.fault_of.result next c.in-Ok.ensures.offset refl b.fault_of.ensures.fault
-          (c.in-Ok.ensures.given p is)
+          (not_moved_given _ _ h k made 0 c.in-Ok.offset p.number old new front p b.in-Err-wrote.refused b.fault_of.result next (c.in-Ok.ensures.offset c.args.reader.now.place (refl, c.requires.ready)) refl b.fault_of.ensures.fault
+          (c.in-Ok.ensures.given c.args.reader.now.place (g.S.Source.left c.args.reader.now.source.now) (stands_here c.args.reader.now.place _ c.requires.ready) p is)
           (subst (WritesRecord old.file.order (record_of front p) h k) b.in-Err-wrote.is wrote)))
     ]
 
@@ -309,10 +316,10 @@ returns-clause-taken g c =
     let b = g.S.Source.left r.new.reader.source.now in
     elim c.match-wrote.branch [
       | in-Ok-wrote b1 ↦ subst (λ z. Told a b (TakesBy z c.args.self.now.taken c.refill.new.self.taken old new)) (sym b1.result-is)
-          (takes_one a b c.self.inside.pool.made 0 c.args.self.now.taken c.refill.new.self.taken old new front p enough (c.in-Ok.ensures.given p is))
+          (takes_one a b c.self.inside.pool.made 0 c.args.self.now.taken c.refill.new.self.taken old new front p enough (c.in-Ok.ensures.given c.args.reader.now.place (g.S.Source.left c.args.reader.now.source.now) (stands_here c.args.reader.now.place _ c.requires.ready) p is))
       | in-Err-wrote b1 ↦ subst (λ z. Told a b (TakesBy z c.args.self.now.taken c.refill.new.self.taken old new)) (sym b1.result-is)
           (takes_not_moved a b c.self.inside.pool.made 0 c.args.self.now.taken c.refill.new.self.taken c.in-Ok.offset p.number old new front p b1.in-Err-wrote.refused b1.fault_of.result
-          b1.fault_of.ensures.fault enough (c.in-Ok.ensures.given p is))
+          b1.fault_of.ensures.fault enough (c.in-Ok.ensures.given c.args.reader.now.place (g.S.Source.left c.args.reader.now.source.now) (stands_here c.args.reader.now.place _ c.requires.ready) p is))
     ]
 
 pub returns-clause-named : goal.returns-clause-named

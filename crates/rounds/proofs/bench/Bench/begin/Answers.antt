@@ -2,7 +2,7 @@ use Rattle.std.proofs.Common.{◌+◌, ◌≤◌, length, sym, ap, ◌∙◌, su
 use Rattle.block_pool.specs.PoolState.{home}
 use Rattle.gro.specs.Packets.{PacketsState}
 use Rattle.rounds.specs.RoundsState.{BenchState}
-use Rattle.rounds.proofs.bench.Bench.take_blank.Goals as goal
+use Rattle.rounds.proofs.bench.Bench.begin.Goals as goal
 
 pub invariant_of-self-2 : goal.invariant_of-self-2
 invariant_of-self-2 c =

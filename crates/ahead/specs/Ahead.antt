@@ -1,6 +1,7 @@
 -- What is said of a round that is read beside the work of another.
 use Rattle.std.specs.Prelude.{ℕ, ◌≡◌, ◌≢◌, ◌+◌, ◌-◌, ◌^◌, ◌<◌, ◌≤◌, List, length, map, min, Option, Some, Ok}
 use Rattle.std.specs.List.{AllByRecursion}
+use Rattle.off_io.specs.Faults.{Rose}
 use Rattle.off_io.specs.Told.{Told}
 use Rattle.pcap_io.specs.declared.heads.RecHead.{RecHead}
 use Rattle.pcap_io.specs.declared.place.Place.{Place}
@@ -10,11 +11,15 @@ use Rattle.offload_model.specs.Need.{need_of, round_need}
 use Rattle.gro.specs.declared.slot.Slot.{Slot as Held}
 use Rattle.gro.specs.Slots.{packet_of}
 use Rattle.rounds.specs.Fresh.{NumberedFrom}
-use Rattle.rounds.specs.Reading.{GivesRound, NumberedTo, PassesRound}
+use Rattle.rounds.specs.Filling.{Reached}
+use Rattle.rounds.specs.Reading.{GivesRound, PassesRound}
 use Rattle.reading.specs.Reading.{KeepsHead, Passes}
-use Rattle.rounds.specs.RoundsState.{PausedState as Paused, RoundState}
-use Rattle.rounds.specs.declared.round.ReadAhead.{ReadAhead}
-use Rattle.rounds.specs.declared.round.ReadAhead.TheVariants as aheads
+use Rattle.rounds.specs.RoundsState.{ReadingState, RoundState}
+use Rattle.rounds.specs.declared.round.Halt.{Halt}
+use Rattle.rounds.specs.declared.round.Halt.TheVariants as halts
+use Rattle.ahead.specs.PausedState.{PausedState as Paused}
+use Rattle.ahead.specs.declared.paused.ReadAhead.{ReadAhead}
+use Rattle.ahead.specs.declared.paused.ReadAhead.TheVariants as aheads
 use Rattle.rounds.specs.declared.round.RoundEnd.{RoundEnd}
 use Rattle.rounds.specs.declared.round.RoundEnd.TheVariants as ends
 use Rattle.rounds.specs.declared.round.RoundRead.{RoundRead}
@@ -33,6 +38,19 @@ IfRead (aheads.Paused paused) P = Unit {0}
 abbrev pub IfPaused : ReadAhead → (Paused → Type 0) → Type 0
 IfPaused (aheads.Read read) P = Unit {0}
 IfPaused (aheads.Paused paused) P = P paused
+
+-- packets with numbers in turn, up to this one
+abbrev pub NumberedTo : ℕ → List Held → Type 0
+NumberedTo n round = (k : ℕ) × NumberedFrom k round × (k + length round ≡ n)
+
+-- with whatever number the first packets begin
+abbrev pub NumbersOn : ℕ → List Held → List Held → Type 0
+NumbersOn n first round = (k : ℕ) → NumberedFrom k first → k + length first ≡ n → NumberedFrom k round
+
+-- from wherever the first packets were taken, the whole round was, and the next one may be
+abbrev pub FillsRound : Place → Place → List Held → List Held → ℕ → Type 0
+FillsRound mid new first round budget = (from : Place) → PassesRound from mid first (length first)
+    → PassesRound from new round budget
 
 -- The reader stands behind the header of a record of a round that goes on, which is kept: up to the place of that
 -- header the packets stand. What the source had left before is `from`, and `to` what it has left.
@@ -69,3 +87,20 @@ pub record ReadsAhead (budget : ℕ) (old new : Place) (ahead : ReadAhead) : Typ
   pub captured : AllByRecursion IsCaptured (map packet_of (round_of ahead).packets)
   pub numbers : NumberedFrom old.number (round_of ahead).packets
   pub need : (round_of ahead).blocks ≡ round_need (map packet_of (round_of ahead).packets)
+
+-- what a round that was read so far comes to
+abbrev pub IsAheadOf : ReadingState → Halt → ReadAhead → Type 0
+IsAheadOf reading (halts.Ended end) (aheads.Read read) = (read.round ≡ reading.round) × (read.end ≡ end)
+IsAheadOf reading (halts.Ended end) (aheads.Paused paused) = ⊥
+IsAheadOf reading halts.Lacking (aheads.Read read) = ⊥
+IsAheadOf reading halts.Lacking (aheads.Paused paused) =
+    (paused.round ≡ reading.round) × (reading.head ≡ Some paused.head) × (paused.empty.takes ≡ reading.round.blocks)
+
+-- a whole round, or one that is paused
+pub record FillsAhead (blocks budget : ℕ) (from to : Reached) (ahead : ReadAhead) : Type 0 where
+  pub given : IfRead ahead (λ read. Told from.left to.left
+      (GivesRound blocks from.place to.place read.round.packets read.end))
+  pub reads : ReadsAhead budget from.place to.place ahead
+  pub waits : IfPaused ahead (Waits budget from.place to.place from.left to.left)
+  pub later : from.faults ≤ to.faults
+  pub failed : IfRead ahead (λ read. read.end ≡ ends.ReadFault → Rose from.faults to.faults)
