@@ -23,7 +23,7 @@
 #include <stddef.h>
 #include <stdint.h>
 
-/* Of this header, and the number of the shared object, whose names are the six calls below and those of offload_burst.h. A change after which a
+/* Of this header, and the number of the shared object, whose names are the calls below and those of offload_burst.h. A change after which a
  * program has to be compiled again raises it, and so did the calls of offload_burst.h, which version 2 hadn't. In version 1
  * `struct offload_options` had neither `size` nor what stands behind `snap`, and there was no offload_queue_rss. */
 #define OFFLOAD_VERSION 3

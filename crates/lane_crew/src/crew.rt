@@ -120,7 +120,7 @@ impl<'a, 'g, G: Gate, N: DeskName, R: Wait> LaneCrew<'a, 'g, G, N, R> {
         requires none { asker.log ≡ [] }
         ensures own { IfOk result (λ crew. crew ≡ N.desk) }
     {
-        let beside = bells.runners().min(LANES) as u32;
+        let beside = parkers.runners().min(LANES) as u32;
         let places = Vec::with_capacity(alloc, LANES)?;
         let tasks = VecDeque::with_capacity(alloc, LANES)?;
         let done = VecDeque::with_capacity(alloc, LANES)?;
