@@ -133,6 +133,31 @@ static void numbers(struct offload_frame *two, const uint8_t *long_frame) {
     check(call(&burst) == OFFLOAD_BURST_OK && burst.made == 2, "a frame of 262,144 bytes");
 }
 
+/* Packets without an Ethernet header, for which there is room in front of them. */
+static void without_ethernet(const struct offload_frame *two) {
+    static const uint8_t before_ip4[14] = {[12] = 8}, before_ip6[14] = {[12] = 0x86, 0xdd};
+    uint8_t bytes[2][154], old[154];
+    struct offload_frame both[2] = {two[0], two[1]};
+    for (int i = 0; i < 2; i++) {
+        both[i].bytes = memcpy(bytes[i], two[i].bytes, two[i].length);
+        memset(bytes[i], FILL, 14);
+        check(offload_put_ethernet(bytes[i], two[i].length) == OFFLOAD_BURST_OK, "a header before IPv4");
+        check(!memcmp(bytes[i], before_ip4, 14) && !memcmp(bytes[i] + 14, two[i].bytes + 14, two[i].length - 14), "and nothing else");
+    }
+    struct burst burst = {64, both, 2, 4, 4, {0}, {{0}}, 0}, other = {64, (struct offload_frame *)two, 2, 4, 4, {0}, {{0}}, 0};
+    check(call(&burst) == OFFLOAD_BURST_OK && call(&other) == OFFLOAD_BURST_OK && burst.made == 1, "two packets are one run");
+    check(!memcmp(burst.runs[0].headers, before_ip4, 14) && !memcmp(burst.runs[0].headers + 14, other.runs[0].headers + 14, HEADERS - 14),
+          "which has their headers behind it");
+    for (int first = 0; first < 256; first++) {
+        uint8_t *frame = bytes[0];
+        memset(frame, FILL, 14), frame[14] = (uint8_t)first, memcpy(old, frame, sizeof old);
+        int version = first >> 4, is_ip = version == 4 || version == 6;
+        check(offload_put_ethernet(frame, both[0].length) == (is_ip ? OFFLOAD_BURST_OK : OFFLOAD_BURST_USAGE), "a packet of each version");
+        check(!memcmp(frame, version == 4 ? before_ip4 : version == 6 ? before_ip6 : old, 14) && !memcmp(frame + 14, old + 14, 140), "and its header");
+    }
+    check(offload_put_ethernet(bytes[1], 14) == OFFLOAD_BURST_USAGE && offload_put_ethernet(bytes[1], 0) == OFFLOAD_BURST_USAGE, "no packet");
+}
+
 static void many_frames(const struct offload_frame *one) {
     struct offload_frame *frames = malloc(65536 * sizeof *frames);
     struct offload_run *runs = malloc(65536 * sizeof *runs);
@@ -174,6 +199,7 @@ static void random_pairs(struct offload_frame *two, long pairs) {
         both[1].original = rand() % 8 ? (uint32_t)both[1].length : 154;
         if (call(&burst) != OFFLOAD_BURST_OK || burst.made > 2 || burst.made < 1) check(0, "a random frame");
         if (burst.made == 1 && (burst.runs[0].n != 2 || burst.next[0] != 1)) check(0, "a random frame that is merged");
+        if ((offload_why_apart(&both[0], &both[1]) == OFFLOAD_MERGEABLE) != (burst.made == 1)) check(0, "why two random frames are no run");
         merged += burst.made == 1;
     }
     printf("%ld random pairs, of which %ld are merged\n", pairs, merged);
@@ -334,6 +360,7 @@ int main(int count_of_words, char **words) {
     size_t length = put_frame(first, 1000, 5, 100), other = put_frame(second, 1100, 6, 50);
     struct offload_frame two[2] = {{first, length, (uint32_t)length, 0}, {second, other, (uint32_t)other, 1}};
     numbers(two, long_frame);
+    without_ethernet(two);
     many_frames(&two[0]);
     without_memory(two);
     random_pairs(two, count_of_words > 1 ? atol(words[1]) : 300000);

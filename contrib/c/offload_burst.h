@@ -126,6 +126,16 @@ uint32_t offload_gso_burst(const uint8_t *frame, size_t length, uint32_t m, uint
  * where it is longer than 262,144 bytes. */
 uint32_t offload_fill_sums(uint8_t *frame, size_t length);
 
+/* ---- packets without an Ethernet header, as a TUN device has them
+ *
+ * A packet is read 14 bytes behind the front of its room, an Ethernet header is written there, and these are a frame like any other. What comes of
+ * it is written without its first 14 bytes again: of a run {headers + 14, headers_length - 14}, and of a frame that is alone {bytes + 14, length -
+ * 14}; of a segment {headers + 14, headers_length - 14}. No byte of a packet is moved. `ip_at` and `leaf_at` count the 14 bytes. */
+
+/* Writes an Ethernet header into the first 14 bytes of a frame, for the IP packet behind them: addresses of zeros, and the type of its version. No
+ * other byte is written. USAGE where there are no bytes behind, or their version is neither 4 nor 6: the frame is as it was. */
+uint32_t offload_put_ethernet(uint8_t *frame, size_t length);
+
 /* ---- why a frame can't be merged */
 
 /* The first condition that fails, in this order, but that what a frame without a shape is told by stands in its place: its first IP header. */
@@ -144,6 +154,26 @@ enum offload_cause {
 
 /* Why a frame that had `original` bytes before it was captured can't be merged. */
 uint32_t offload_why(const uint8_t *frame, size_t length, uint32_t original);
+
+/* ---- why two frames don't continue one another */
+
+/* The first condition that fails, in this order: that each may be merged, and then what the definition of a run asks of both. OFFLOAD_MERGEABLE
+ * where none does: the two are a run. */
+enum offload_pair_cause {
+    OFFLOAD_FIRST = 10,          /* the first can't be merged itself, as offload_why tells */
+    OFFLOAD_SECOND = 11,         /* the second can't */
+    OFFLOAD_FLOW = 12,           /* they are of two flows: addresses, tags, tunnel or ports differ */
+    OFFLOAD_HEADERS = 13,        /* another field of their headers differs, or a header */
+    OFFLOAD_UDP_SUM = 14,        /* one has a UDP sum, and the other none */
+    OFFLOAD_LONGER = 15,         /* the second is longer than the first */
+    OFFLOAD_PUSHED = 16,         /* the first has PSH or FIN, which end a run */
+    OFFLOAD_SEQUENCE = 17,       /* the second's sequence number isn't the one behind the first's payload: lost, repeated or out of order */
+    OFFLOAD_IDENTIFICATION = 18, /* an IPv4 identification neither rises by one nor stays under "don't fragment" */
+    OFFLOAD_TOO_LONG = 19        /* together they are longer than a length in their headers can say, or than 262,144 bytes */
+};
+
+/* Why the second of two frames, in the order in which they came, doesn't continue the first. A number of theirs isn't read. */
+uint32_t offload_why_apart(const struct offload_frame *first, const struct offload_frame *second);
 
 #ifdef __cplusplus
 }

@@ -32,12 +32,12 @@ CAUSES = {
     "sum": Cause("sum wrong", f"{AT_SENDER} tx off; tcprewrite -C mends a file"),
     "first": Cause("first of its flow", "nothing: each run begins with a packet"),
     "behind": Cause("behind one that can't merge", "as for that one"),
-    "pushed": Cause("behind PSH or FIN", "nothing: with it the sender ends a run"),
+    "fields": Cause("another header field", "nothing: it has to be as in the run's first"),
     "short": Cause("behind a shorter one", "nothing: only the last of a run may be shorter"),
+    "longer": Cause("longer than the run's first", "nothing: no packet of a run may be"),
+    "pushed": Cause("behind PSH or FIN", "nothing: with it the sender ends a run"),
     "gap": Cause("a gap in sequence numbers", "lost, repeated, out of order; tcpdump tells at its end what it dropped"),
     "identification": Cause("IPv4 identification", "nothing: the sender neither counts it by one nor keeps it with DF"),
-    "fields": Cause("another header field", "nothing: it has to be as in the run's first"),
-    "longer": Cause("longer than the run's first", "nothing: no packet of a run may be"),
     "limit": Cause("the run is full", "a greater --segs, where one is given; a frame has an end too"),
     "round": Cause("a round's end", "a greater --budget, 4096 at most; it may need more --blocks"),
 }
@@ -167,28 +167,29 @@ class Run:
 
 
 def between(run, packet, segs):
-    """Why a packet that may be merged doesn't continue a run of its flow, by cause and detail; None where it does."""
+    """Why a packet that may be merged doesn't continue a run of its flow, by cause and detail; None where it does. It
+    asks in the order of the definition of a run, as the library's `offload_why_apart` does of two frames."""
     if not commands.is_candidate(run.last.frame, run.last.original):
         return "behind", ""
     first, last, own = run.first.frame, run.last.frame, packet.frame
     (headers, payload_at), size = shape(first), run.payload + len(own)
     kind, at = headers[-1]
     m = len(first) - payload_at
-    if kind == TCP and last[at + 13] != 0x10:
-        return "pushed", ""
-    if len(last) < len(first):
-        return "short", ""
-    if kind == TCP and be32(own, at + 4) != (be32(first, at + 4) + run.count * m) % 2**32:
-        return "gap", ""
     if shape(own) != shape(first):
         return "fields", "length of the TCP options"
-    if not all(follows(run, own, at) for kind, at in headers if kind == IP4):
-        return "identification", ""
     changed = fields_between(first, own, headers, payload_at)
     if changed:
         return "fields", changed
+    if len(last) < len(first):
+        return "short", ""
     if len(own) > len(first):
         return "longer", ""
+    if kind == TCP and last[at + 13] != 0x10:
+        return "pushed", ""
+    if kind == TCP and be32(own, at + 4) != (be32(first, at + 4) + run.count * m) % 2**32:
+        return "gap", ""
+    if not all(follows(run, own, at) for kind, at in headers if kind == IP4):
+        return "identification", ""
     if run.count == segs:
         return "limit", "--segs"
     lengths = [commands.length_field(kind, at, size) for kind, at in headers]

@@ -11,6 +11,7 @@
             os.writev(device, run.slices())              # headers, and then the payloads where they lie
     offload.cut(frame, 1448, fill=True)                  # the segments of a merged frame, or of a large send
     offload.why(frame)                                   # why a frame can't be merged
+    offload.why(first, second)                           # why two don't continue one another
 
     with offload.Pool(64) as pool:                       # blocks of 2048 bytes, and buffers over them as struct sk_buff
         packet = pool.packet(payload, headroom=64)
@@ -38,6 +39,8 @@ Bytes = Union[bytes, bytearray, memoryview]
 VERSION = 3  # of contrib/c/offload.h
 OK, USAGE, MALFORMED, POOL_EMPTY, NOT_SOLE, NO_MEMORY, NO_ROOM = 0, 2, 3, 4, 5, 7, 9
 CAUSES = ("", "cut short", "a fragment", "IPv4 options", "an extension header", "another layout", "length", "flags", "no payload", "sum")
+FIRST_CAUSE, SECOND_CAUSE, FLOW_CAUSE = 10, 11, 12  # of two frames
+CAUSES_OF_TWO = ("another flow", "another header field", "a UDP sum", "longer", "behind PSH or FIN", "sequence number", "identification", "too long")
 ENOUGH_BLOCKS = 8384  # with so many no round of 64 records exceeds the pool
 BLOCKS_OF_A_RECORD = 131
 ETHERNET_LINK, OFFLOAD_LINK = 1, 147
@@ -179,6 +182,7 @@ def _loaded() -> ctypes.CDLL:
     library.offload_gso_burst.restype = number
     library.offload_fill_sums.argtypes, library.offload_fill_sums.restype = [out, size], number
     library.offload_why.argtypes, library.offload_why.restype = [out, size, number], number
+    library.offload_why_apart.argtypes, library.offload_why_apart.restype = [frames, frames], number
     library.offload_pool_new.argtypes, library.offload_pool_new.restype = [engine, number], number
     library.offload_pool_home.argtypes, library.offload_pool_home.restype = [engine], number
     library.offload_pool_free.argtypes, library.offload_pool_free.restype = [engine], None
@@ -571,12 +575,30 @@ def cut(frame: Bytes, segment: int, *, modes: int = 0, fill: bool = False) -> li
     return [[bytes(one.headers[: one.headers_length]), view[one.at : one.at + one.length]] for one in told]
 
 
-def why(frame: Bytes, original: Optional[int] = None) -> str:
-    """Why a frame that had `original` bytes before it was captured can't be merged, in a word or two; nothing of one that can."""
+def why(frame: Bytes, second: Optional[Bytes] = None, *, original: Optional[int] = None, original_of_second: Optional[int] = None) -> str:
+    """Why a frame that had `original` bytes before it was captured can't be merged, in a word or two; nothing of one that can.
+
+    With a `second` frame, why that doesn't continue the first; nothing where both are a run.
+    """
+    first, kept = _captured(frame, original)
+    if second is None:
+        number = _library.offload_why(first.bytes, first.length, first.original)
+        del kept
+        return CAUSES[number]
+    behind, kept_too = _captured(second, original_of_second)
+    number = _library.offload_why_apart(first, behind)
+    del kept, kept_too
+    if number == FIRST_CAUSE:
+        return f"the first: {why(frame, original=original)}"
+    if number == SECOND_CAUSE:
+        return f"the second: {why(second, original=original_of_second)}"
+    return CAUSES_OF_TWO[number - FLOW_CAUSE] if number else ""
+
+
+def _captured(frame: Bytes, original: Optional[int]) -> tuple[_Frame, object]:
+    """A frame that had so many bytes before it was captured, and what has to live as long as it is used."""
     view, address, kept = _lent(frame)
-    number = _library.offload_why(address, len(view), _number("original", len(view) if original is None else original))
-    del kept
-    return CAUSES[number]
+    return _Frame(address, len(view), _number("original", len(view) if original is None else original), 0), kept
 
 
 def _checked(status: int, reason: str) -> None:

@@ -1,11 +1,12 @@
-/* Joins two network namespaces by a TAP device in each: what one sends is read here and written to the other, as a link does it, with virtio-net
- * headers. Frames are merged before they are written, so that the other kernel takes one for many, and a large send that a kernel left to be cut is
+/* Joins two network namespaces by a TAP or a TUN device in each: what one sends is read here and written to the other, as a link does it, with
+ * virtio-net headers. Frames are merged before they are written, so that the other kernel takes one for many, and a large send that a kernel left to be cut is
  * cut here.
  *
- * usage: forward NAMESPACE DEVICE NAMESPACE DEVICE plain|merged|cut
+ * usage: forward NAMESPACE DEVICE NAMESPACE DEVICE plain|merged|cut tap|tun
  *
  * plain: each frame is written as it was read. merged: bursts of up to 64 frames are merged. cut: the kernels leave large sends and sums to the
- * link, which cuts them, and merges what it has cut. At SIGTERM it tells what it did. */
+ * link, which cuts them, and merges what it has cut. A TUN device has packets without an Ethernet header: they get one here, in front of what is
+ * read, and are written without it. At SIGTERM it tells what it did. */
 #define _GNU_SOURCE
 #include "offload_burst.h"
 #include <errno.h>
@@ -28,6 +29,7 @@ enum { BURST = 64, ROOM = 65536 + 64, ETHERNET = 14, MOST_PACKET = 65535, PIECES
 
 static volatile sig_atomic_t is_over;
 static int is_merging, is_cutting;
+static uint32_t front; /* bytes of a frame that the devices don't have: those of an Ethernet header, or none */
 static unsigned long long read_count, sent_count, written_count, cut_count, refused_count, wrong_count;
 
 static uint8_t store[BURST][ROOM];
@@ -49,13 +51,13 @@ static int fail(const char *what) {
     exit(1);
 }
 
-static int open_tap(const char *space, const char *name) {
+static int open_device(const char *space, const char *name) {
     char path[256];
     snprintf(path, sizeof path, "/var/run/netns/%s", space);
     int there = open(path, O_RDONLY), own = open("/proc/self/ns/net", O_RDONLY), size = sizeof no_header;
     if (there < 0 || own < 0 || setns(there, CLONE_NEWNET)) return fail(path);
     int device = open("/dev/net/tun", O_RDWR | O_NONBLOCK);
-    struct ifreq request = {.ifr_flags = IFF_TAP | IFF_NO_PI | IFF_VNET_HDR};
+    struct ifreq request = {.ifr_flags = (short)((front ? IFF_TUN : IFF_TAP) | IFF_NO_PI | IFF_VNET_HDR)};
     snprintf(request.ifr_name, IFNAMSIZ, "%s", name);
     if (device < 0 || ioctl(device, TUNSETIFF, &request) || ioctl(device, TUNSETVNETHDRSZ, &size)) return fail(name);
     if (is_cutting && ioctl(device, TUNSETOFFLOAD, TUN_F_CSUM | TUN_F_TSO4 | TUN_F_TSO6 | USO) &&
@@ -84,7 +86,7 @@ static void put(int to, const struct virtio_net_hdr *header, struct iovec *parts
 }
 
 static void put_alone(int to, const struct offload_frame *frame) {
-    struct iovec parts[2] = {{0}, {(void *)frame->bytes, frame->length}};
+    struct iovec parts[2] = {{0}, {(void *)(frame->bytes + front), frame->length - front}};
     put(to, &no_header, parts, 2);
 }
 
@@ -100,12 +102,12 @@ static void put_run(int to, struct offload_run *run) {
         for (uint32_t i = 0, at = run->first; i < run->n; i++, at = next[at]) put_alone(to, &frames[at]);
         return;
     }
-    struct virtio_net_hdr header = {.flags = VIRTIO_NET_HDR_F_NEEDS_CSUM, .gso_size = (uint16_t)run->m, .hdr_len = (uint16_t)run->headers_length};
+    struct virtio_net_hdr header = {.flags = VIRTIO_NET_HDR_F_NEEDS_CSUM, .gso_size = (uint16_t)run->m, .hdr_len = (uint16_t)(run->headers_length - front)};
     header.gso_type = is_tcp ? (is_ip4 ? VIRTIO_NET_HDR_GSO_TCPV4 : VIRTIO_NET_HDR_GSO_TCPV6) : UDP_L4;
-    header.csum_start = run->leaf_at, header.csum_offset = is_tcp ? 16 : 6;
+    header.csum_start = (uint16_t)(run->leaf_at - front), header.csum_offset = is_tcp ? 16 : 6;
     uint8_t *sum = run->headers + run->leaf_at + header.csum_offset;
     sum[0] = (uint8_t)(run->pseudo >> 8), sum[1] = (uint8_t)run->pseudo;
-    parts[1] = (struct iovec){run->headers, run->headers_length};
+    parts[1] = (struct iovec){run->headers + front, run->headers_length - front};
     for (uint32_t i = 0, at = run->first; i < run->n; i++, at = next[at])
         parts[count++] = (struct iovec){(void *)(frames[at].bytes + run->headers_length), frames[at].length - run->headers_length};
     put(to, &header, parts, count);
@@ -142,10 +144,11 @@ static int forward(int from, int to) {
     size_t count = 0;
     while (count < BURST) {
         struct virtio_net_hdr header;
-        struct iovec parts[2] = {{&header, sizeof header}, {store[count], ROOM}};
+        struct iovec parts[2] = {{&header, sizeof header}, {store[count] + front, ROOM - front}};
         ssize_t length = readv(from, parts, 2) - (ssize_t)sizeof header;
         if (length <= 0) break;
-        read_count++;
+        read_count++, length += front;
+        if (front && offload_put_ethernet(store[count], (size_t)length) != OFFLOAD_BURST_OK) wrong_count++;
         if (header.flags & VIRTIO_NET_HDR_F_NEEDS_CSUM && offload_fill_sums(store[count], (size_t)length) != OFFLOAD_BURST_OK) wrong_count++;
         if (header.gso_type != VIRTIO_NET_HDR_GSO_NONE) {
             uint8_t *frame = store[count];
@@ -161,9 +164,10 @@ static int forward(int from, int to) {
 }
 
 int main(int count_of_words, char **words) {
-    if (count_of_words != 6) return 2;
+    if (count_of_words != 7) return 2;
     is_cutting = !strcmp(words[5], "cut"), is_merging = is_cutting || !strcmp(words[5], "merged");
-    int devices[2] = {open_tap(words[1], words[2]), open_tap(words[3], words[4])};
+    front = !strcmp(words[6], "tun") ? ETHERNET : 0;
+    int devices[2] = {open_device(words[1], words[2]), open_device(words[3], words[4])};
     if (offload_gro_new(&gro, BURST, BURST) != OFFLOAD_BURST_OK) return 1;
     signal(SIGTERM, stop), signal(SIGINT, stop);
     while (!is_over) {

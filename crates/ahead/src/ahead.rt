@@ -54,10 +54,11 @@ fn read_next<R: Sync, S: Source, H: Supply>(
     ensures same_source { SameLoan reader.old reader.new }
     ensures fills { FillsAhead intake.old.blocks intake.old.budget (reached S.left S.faults reader.old)
         (reached S.left S.faults reader.new) result }
-    ensures paused { IfPaused result (Lacks intake.new.home intake.old.blocks intake.old.taken intake.new.taken) }
+    ensures paused { IfPaused result (Lacks (length intake.new.stock) intake.old.blocks intake.old.taken
+        intake.new.taken) }
     ensures refused { IfPaused result (λ _. min (H.refusals more.old + 1) (2 ^ 64 - 1) ≤ H.refusals more.new) }
     ensures came { Came (brought_by H.weights H.refusals more.old) (brought_by H.weights H.refusals more.new)
-        intake.old.home (intake.new.home + (round_of result).blocks) (λ h. weighed h intake.old.stock)
+        (length intake.old.stock) (length intake.new.stock + (round_of result).blocks) (λ h. weighed h intake.old.stock)
         (λ h. weighed h intake.new.stock + weights_of (round_of result) h) }
     ensures same { (intake.new.blocks ≡ intake.old.blocks) × (intake.new.budget ≡ intake.old.budget)
         × (intake.new.empties ≡ intake.old.empties) × (intake.new.pauses ≡ intake.old.pauses) }
@@ -90,12 +91,13 @@ fn work_beside<'a, R: Threads + Wait + Sync, N: ListName + Send, W: Works, S: So
     ensures same_source { SameLoan reader.old reader.new }
     ensures fills { FillsAhead intake.old.blocks intake.old.budget (reached S.left S.faults reader.old)
         (reached S.left S.faults reader.new) result.0 }
-    ensures paused { IfPaused result.0 (Lacks intake.new.home intake.old.blocks intake.old.taken intake.new.taken) }
+    ensures paused { IfPaused result.0 (Lacks (length intake.new.stock) intake.old.blocks intake.old.taken
+        intake.new.taken) }
     ensures refused { IfPaused result.0 (λ _. min (more.old.taker.pass.empties + 1) (2 ^ 64 - 1)
         ≤ more.new.taker.pass.empties) }
     ensures came { Came (brought_listed more.old.taker.pass more.old.taker.left)
-        (brought_listed more.new.taker.pass more.new.taker.left) intake.old.home
-        (intake.new.home + (round_of result.0).blocks) (λ h. weighed h intake.old.stock)
+        (brought_listed more.new.taker.pass more.new.taker.left) (length intake.old.stock)
+        (length intake.new.stock + (round_of result.0).blocks) (λ h. weighed h intake.old.stock)
         (λ h. weighed h intake.new.stock + weights_of (round_of result.0) h) }
     ensures intake { (intake.new.blocks ≡ intake.old.blocks) × (intake.new.budget ≡ intake.old.budget)
         × (intake.new.empties ≡ intake.old.empties) × (intake.new.pauses ≡ intake.old.pauses) }
@@ -116,13 +118,14 @@ fn work_beside<'a, R: Threads + Wait + Sync, N: ListName + Send, W: Works, S: So
             ensures same_source { SameLoan reader.entry.now reader.exit.now }
             ensures fills { FillsAhead intake.entry.now.blocks intake.entry.now.budget
                 (reached S.left S.faults reader.entry.now) (reached S.left S.faults reader.exit.now) result }
-            ensures paused { IfPaused result (Lacks intake.exit.now.home intake.entry.now.blocks
+            ensures paused { IfPaused result (Lacks (length intake.exit.now.stock) intake.entry.now.blocks
                 intake.entry.now.taken intake.exit.now.taken) }
             ensures refused { IfPaused result (λ _. min (more.entry.now.taker.pass.empties + 1) (2 ^ 64 - 1)
                 ≤ more.exit.now.taker.pass.empties) }
             ensures came { Came (brought_listed more.entry.now.taker.pass more.entry.now.taker.left)
-                (brought_listed more.exit.now.taker.pass more.exit.now.taker.left) intake.entry.now.home
-                (intake.exit.now.home + (round_of result).blocks) (λ h. weighed h intake.entry.now.stock)
+                (brought_listed more.exit.now.taker.pass more.exit.now.taker.left) (length intake.entry.now.stock)
+                (length intake.exit.now.stock + (round_of result).blocks)
+                (λ h. weighed h intake.entry.now.stock)
                 (λ h. weighed h intake.exit.now.stock + weights_of (round_of result) h) }
             ensures intake { (intake.exit.now.blocks ≡ intake.entry.now.blocks)
                 × (intake.exit.now.budget ≡ intake.entry.now.budget)
@@ -149,10 +152,11 @@ fn work_beside<'a, R: Threads + Wait + Sync, N: ListName + Send, W: Works, S: So
 
 // What was worked; for want of memory all blocks of the round come home.
 fn close_work(rounds: &mut Rounds, worked: Result<Worked, Rest>) -> Result<Worked, AllocError>
-    requires out { IfErr worked (λ rest. rounds.old.home + rest.blocks ≤ rounds.old.blocks) }
+    requires out { IfErr worked (λ rest. length rounds.old.stock + rest.blocks ≤ rounds.old.blocks) }
     ensures worked { MatchResult worked (λ w. result ≡ Ok w) (λ _. IsErr result) }
-    ensures home { MatchResult worked (λ _. rounds.new ≡ rounds.old) (λ rest. rounds.new
-        ≡ record rounds.old { home = rounds.old.home + rest.blocks; stock = rounds.new.stock }) }
+    ensures home { MatchResult worked (λ _. rounds.new ≡ rounds.old) (λ rest. (rounds.new
+        ≡ record rounds.old { stock = rounds.new.stock })
+        × (length rounds.new.stock ≡ length rounds.old.stock + rest.blocks)) }
     ensures named { IfErr worked (λ rest. (h : ℕ → ℕ) → weighed h rounds.new.stock
         ≡ weighed h rounds.old.stock + weights_left rest h) }
 {
@@ -177,7 +181,7 @@ fn work_listed<N: ListName + Send, R: Threads + Wait + Sync, W: Works, S: Source
 ) -> (Result<Worked, AllocError>, ReadAhead)
     requires ready { IsReady (place_of reader.old) }
     requires link { (place_of reader.old).link ≡ Ethernet }
-    requires out { rounds.old.home + round.blocks ≡ rounds.old.blocks }
+    requires out { length rounds.old.stock + round.blocks ≡ rounds.old.blocks }
     requires lists { (giver.pool ≡ arc_value taker.lists) × (arc_value taker.lists ≡ N.lists) }
     requires untaken { (taker.pass.taken ≡ []) × (home taker.left ≡ 0) × (taker.pass.empties ≡ 0) }
     requires ungiven { (giver.pass.parts ≡ 65535) × (giver.pass.put ≡ []) × (home giver.list ≡ 0) }
@@ -188,12 +192,12 @@ fn work_listed<N: ListName + Send, R: Threads + Wait + Sync, W: Works, S: Source
     ensures same_source { SameLoan reader.old reader.new }
     ensures fills { FillsAhead rounds.old.blocks rounds.old.budget (reached S.left S.faults reader.old)
         (reached S.left S.faults reader.new) result.1 }
-    ensures paused { IfPaused result.1 (λ paused. Lacks (rounds.old.home - paused.round.blocks) rounds.old.blocks
-        rounds.old.taken rounds.new.taken paused) }
+    ensures paused { IfPaused result.1 (λ paused. Lacks (length rounds.old.stock - paused.round.blocks)
+        rounds.old.blocks rounds.old.taken rounds.new.taken paused) }
     ensures rose { IfPaused result.1 (λ _. min (rounds.old.empties + 1) (2 ^ 64 - 1) ≤ rounds.new.empties) }
     ensures later_empties { rounds.old.empties ≤ rounds.new.empties }
     ensures unpaused { rounds.new.pauses ≡ rounds.old.pauses }
-    ensures home { rounds.new.home + blocks_out result.0 + (round_of result.1).blocks ≡ rounds.old.blocks }
+    ensures home { length rounds.new.stock + blocks_out result.0 + (round_of result.1).blocks ≡ rounds.old.blocks }
     ensures named { (h : ℕ → ℕ) → weighed h rounds.new.stock + weights_out result.0 h
         + weights_of (round_of result.1) h ≡ weighed h rounds.old.stock + weights_of round h }
     ensures same { (rounds.new.blocks ≡ rounds.old.blocks) × (options_of rounds.new ≡ options_of rounds.old)
@@ -238,7 +242,7 @@ pub fn work_and_read<R: Threads + Wait + Sync, W: Works, S: Source + Send>(
 ) -> (Result<Worked, AllocError>, ReadAhead)
     requires ready { IsReady (place_of reader.old) }
     requires link { (place_of reader.old).link ≡ Ethernet }
-    requires out { rounds.old.home + round.blocks ≡ rounds.old.blocks }
+    requires out { length rounds.old.stock + round.blocks ≡ rounds.old.blocks }
     ensures records { IfOk result.0 (λ worked. worked_records worked
         ≡ round_records (options_of rounds.old) (map packet_of round.packets)) }
     ensures checked { rounds.old.keep ≡ true → IfOk result.0
@@ -253,12 +257,12 @@ pub fn work_and_read<R: Threads + Wait + Sync, W: Works, S: Source + Send>(
     ensures reads { ReadsAhead rounds.old.budget (place_of reader.old) (place_of reader.new) result.1 }
     ensures waits { IfPaused result.1 (Waits rounds.old.budget (place_of reader.old) (place_of reader.new)
         (S.left (source_of reader.old)) (S.left (source_of reader.new))) }
-    ensures paused { IfPaused result.1 (λ paused. Lacks (rounds.old.home - paused.round.blocks) rounds.old.blocks
-        rounds.old.taken rounds.new.taken paused) }
+    ensures paused { IfPaused result.1 (λ paused. Lacks (length rounds.old.stock - paused.round.blocks)
+        rounds.old.blocks rounds.old.taken rounds.new.taken paused) }
     ensures rose { IfPaused result.1 (λ _. min (rounds.old.empties + 1) (2 ^ 64 - 1) ≤ rounds.new.empties) }
     ensures later_empties { rounds.old.empties ≤ rounds.new.empties }
     ensures unpaused { rounds.new.pauses ≡ rounds.old.pauses }
-    ensures home { rounds.new.home + blocks_out result.0 + (round_of result.1).blocks ≡ rounds.old.blocks }
+    ensures home { length rounds.new.stock + blocks_out result.0 + (round_of result.1).blocks ≡ rounds.old.blocks }
     ensures named { (h : ℕ → ℕ) → weighed h rounds.new.stock + weights_out result.0 h
         + weights_of (round_of result.1) h ≡ weighed h rounds.old.stock + weights_of round h }
     ensures same { (rounds.new.blocks ≡ rounds.old.blocks) × (options_of rounds.new ≡ options_of rounds.old)
@@ -289,7 +293,7 @@ pub fn read_rest<S: Source>(
     requires kept { (at : Place) × (KeepsHead at (place_of reader.old) paused.head
         × NumberedTo at.number paused.round.packets) }
     requires link { (place_of reader.old).link ≡ Ethernet }
-    requires out { rounds.old.home + paused.round.blocks ≡ rounds.old.blocks }
+    requires out { length rounds.old.stock + paused.round.blocks ≡ rounds.old.blocks }
     requires fits { paused.round.blocks + need_of paused.head.captured ≤ rounds.old.blocks }
     requires fewer { length paused.round.packets < rounds.old.budget }
     ensures same_source { SameLoan reader.old reader.new }
@@ -304,7 +308,7 @@ pub fn read_rest<S: Source>(
     ensures numbers { (at : Place) → KeepsHead at (place_of reader.old) paused.head
         → NumbersOn at.number paused.round.packets result.round.packets }
     ensures need { result.round.blocks ≡ round_need (map packet_of result.round.packets) }
-    ensures home { rounds.new.home + result.round.blocks ≡ rounds.old.blocks }
+    ensures home { length rounds.new.stock + result.round.blocks ≡ rounds.old.blocks }
     ensures named { (h : ℕ → ℕ) → weighed h rounds.new.stock + weights_of result.round h
         ≡ weighed h rounds.old.stock + weights_of paused.round h }
     ensures same { (rounds.new.blocks ≡ rounds.old.blocks) × (options_of rounds.new ≡ options_of rounds.old)

@@ -43,7 +43,7 @@ impl<'a, R, N: ListName> NextLists<'a, R, N> {
 
 impl<R: Wait, N: ListName> Supply for NextLists<'_, R, N> {
     ghost use Rattle.std.specs.Prelude.{false, true};
-    ghost use Rattle.block_supply.specs.Lists.{listed_home, weights_home};
+    ghost use Rattle.block_supply.specs.Lists.{weights_home};
 
     ghost weights = { λ n h. weights_home h n.taker.pass n.taker.left };
 

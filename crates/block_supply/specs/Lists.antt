@@ -1,8 +1,9 @@
--- Lists of blocks that come home while the other blocks of their round are out: how many came, and what they weigh.
+-- Lists of blocks that come home while the other blocks of their round are out: what came, and by weights of 1 how many
+-- these are.
 use Rattle.std.specs.Prelude.{ℕ, ◌≡◌, ◌-◌, Option, Some, List, []}
 use Rattle.raw_block.specs.Views.{SoleState}
 use Rattle.block_pool.specs.Giving.{GiverState}
-use Rattle.block_pool.specs.Listed.{listed, blocks_in}
+use Rattle.block_pool.specs.Listed.{listed}
 use Rattle.block_pool.specs.PassState.{PassState, SharedState}
 use Rattle.block_pool.specs.PoolState.{PoolState, home, weighed}
 
@@ -14,14 +15,11 @@ no_lists = record {
   places = 0;
 }
 
--- the blocks that came home of lists that were taken: all but those that are left of one
-abbrev pub listed_home : PassState PoolState → PoolState → ℕ
-listed_home pass left = blocks_in pass.taken - home left
-
--- the blocks of lists
+-- what the blocks of lists weigh, each by its name
 abbrev pub weights_listed : (ℕ → ℕ) → List PoolState → ℕ
 weights_listed h lists = listed (λ (s : SoleState). h s.block) lists
 
+-- and those that came home of lists that were taken: all but those that are left of one
 abbrev pub weights_home : (ℕ → ℕ) → PassState PoolState → PoolState → ℕ
 weights_home h pass left = weights_listed h pass.taken - weighed h left.blocks
 

@@ -11,9 +11,9 @@
 //!
 //! Proved, of each supply: `named` of `bring` and `look`: what came home is what it brought, just these blocks by their
 //! names, so by weights of 1 it is counted too; `same`: none was taken; `enough`: it says yes only where as many are
-//! home as are needed; `refused`, `looked`, `asked`: it counts how often it found none. Of a taker: `sum` and `named`
-//! of [`Taker::bring`]: what came home is what was taken and isn't left of a list; `refused`: where none came a take
-//! found no list, or all places are taken.
+//! home as are needed; `refused`, `looked`, `asked`: it counts how often it found none. Of a taker: `named` of
+//! [`Taker::bring`]: what came home is what was taken and isn't left of a list; `refused`: where none came a take found
+//! no list, or all places are taken.
 //!
 //! ```
 //! let (mut taker, giver) = open_lists(alloc)?;

@@ -2,10 +2,9 @@
 ghost use Rattle.std.specs.Prelude.{◌≡◌, ◌≢◌, ◌⊎◌, ℕ, ◌+◌, ◌-◌, ◌<◌, ◌≤◌, ◌^◌, [], true, false, min};
 ghost use Rattle.std.specs.Prelude.{IfNone, IfOk, IfSome};
 ghost use Rattle.std.specs.Arc.{arc_value};
-ghost use Rattle.block_pool.specs.Listed.{blocks_in};
 ghost use Rattle.block_pool.specs.PassState.{IsOwn};
 ghost use Rattle.block_pool.specs.PoolState.{home, weighed};
-ghost use Rattle.block_supply.specs.Lists.{listed_home, weights_home, weights_listed};
+ghost use Rattle.block_supply.specs.Lists.{weights_home, weights_listed};
 
 use block_pool::{Giver, ListPass, ListPool, Pool};
 use core::mem::replace;
@@ -31,17 +30,13 @@ pub struct Taker {
     pub ghost own: { IsOwn (arc_value lists) pass },
     /// It has one part, and puts nothing.
     pub ghost alone: { (pass.parts ≡ 1) × (pass.made ≡ []) × (pass.put ≡ []) },
-    /// No more blocks are left than came with lists.
-    pub ghost counted: { home left ≤ blocks_in pass.taken },
-    /// The same of each block, by any weight of the blocks' names.
+    /// No block is left but those that came with lists, by any weight of the blocks' names.
     pub ghost weighs: { (h : ℕ → ℕ) → weighed h left.blocks ≤ weights_listed h pass.taken },
 }
 
 impl Taker {
     // What is left of a list comes home, as far as there are places: whether any of it did.
     fn put_left(&mut self, pool: &mut Pool) -> bool
-        ensures sum { home pool.new + listed_home self.old.pass self.old.left
-            ≡ home pool.old + listed_home self.new.pass self.new.left }
         ensures named { (h : ℕ → ℕ) → weighed h pool.new.blocks + weights_home h self.old.pass self.old.left
             ≡ weighed h pool.old.blocks + weights_home h self.new.pass self.new.left }
         ensures same { (pool.new.made ≡ pool.old.made) × (pool.new.taken ≡ pool.old.taken) }
@@ -59,8 +54,6 @@ impl Taker {
     /// Whether blocks came home: those of the next list, if one was given. Where none did a take found no list, or all
     /// places for blocks are taken.
     pub fn bring<R: Wait>(&mut self, rt: &R, pool: &mut Pool) -> bool
-        ensures sum { home pool.new + listed_home self.old.pass self.old.left
-            ≡ home pool.old + listed_home self.new.pass self.new.left }
         ensures named { (h : ℕ → ℕ) → weighed h pool.new.blocks + weights_home h self.old.pass self.old.left
             ≡ weighed h pool.old.blocks + weights_home h self.new.pass self.new.left }
         ensures same { (pool.new.made ≡ pool.old.made) × (pool.new.taken ≡ pool.old.taken) }
@@ -86,7 +79,6 @@ impl Taker {
     pub fn take_spent(&mut self, places: u32) -> Option<Pool>
         ensures spent { IfSome result (λ list. (home list ≡ 0) × (list.made ≡ places)) }
         ensures none { IfNone result (home self.old.left ≡ 0 → self.old.left.made ≢ places) }
-        ensures sum { listed_home self.new.pass self.new.left ≡ listed_home self.old.pass self.old.left }
         ensures named { (h : ℕ → ℕ) → weights_home h self.new.pass self.new.left
             ≡ weights_home h self.old.pass self.old.left }
         ensures lists { arc_value self.new.lists ≡ arc_value self.old.lists }

@@ -1,9 +1,10 @@
 -- What cutting a merged frame comes to.
-use Rattle.std.specs.Prelude.{◌≡◌, ℕ, ◌≤◌, List, map}
+use Rattle.std.specs.Prelude.{◌≡◌, ℕ, ◌<◌, ◌≤◌, List, map}
 use Rattle.std.specs.List.{AllByRecursion}
+use Rattle.net_bytes.specs.Bytes.{byte}
 use Rattle.pcap_io.specs.Capture.{Packet}
 use Rattle.offload_model.specs.Captured.{AreCaptured}
-use Rattle.offload_model.specs.Merged.{merged_of}
+use Rattle.offload_model.specs.Merged.{frame_at, merged_of}
 use Rattle.offload_model.specs.Segments.{IsLawfulSuper}
 use Rattle.frame_bursts.specs.Burst.{frames_of, Merges}
 use Rattle.frame_bursts.specs.declared.told.BurstRun.{BurstRun}
@@ -28,3 +29,15 @@ MergedComesApart =
     → AreCaptured ps
     → Merges segs ps next told
     → AllByRecursion (λ r. 2 ≤ r.n → ComesApart r (frames_of ps next r)) told
+
+-- the merged frame of a run begins with the 14 bytes that its first frame begins with
+abbrev pub HasItsEthernet : List Packet → Type 0
+HasItsEthernet run = (k : ℕ) → k < 14 → byte (merged_frame run) k ≡ byte (frame_at run 0) k
+
+-- so that of each run of a burst
+abbrev pub EthernetStays : Type 0
+EthernetStays =
+    (segs : ℕ) (ps : List Packet) (next : List ℕ) (told : List BurstRun)
+    → AreCaptured ps
+    → Merges segs ps next told
+    → AllByRecursion (λ r. 2 ≤ r.n → HasItsEthernet (frames_of ps next r)) told

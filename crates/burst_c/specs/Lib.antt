@@ -1,4 +1,5 @@
 pub mod Causes
 pub mod Cutting
+pub mod Front
 pub mod Inverse
 pub mod Made

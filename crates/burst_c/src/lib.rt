@@ -32,14 +32,20 @@
 //!   by the numbers of its run, and is cut into just the frames of the run, byte for byte and in order.
 //! - `cause`, `candidate` of [`offload_why`]: the number of the definition's cause, 0 exactly where a frame may be
 //!   merged.
+//! - `cause`, `mergeable` of [`offload_why_apart`]: the same of two frames, 0 exactly where they are a mergeable run.
+//!
+//! - `front`, `told`, `untouched` of [`offload_put_ethernet`]: an Ethernet header of the type of the IP packet behind
+//!   14 bytes stands in these, and no other byte changes; without such a packet nothing is written, and the answer is
+//!   2. `law` of [`ethernet_stays`]: a merged frame begins with the 14 bytes of the first frame of its run.
 //!
 //! Not said: when there is no memory; that an engine takes none after it is made (`contrib/c/burst_check` refuses it
 //! all).
 //!
 //! Its parts: `exports` (a burst), `kept` (engines), `handle` (an engine by its address), `cuts` (the inverse), `laws`
-//! (both together), `causes`, `codes`. `specs/Made.antt` says what holds of an engine where there is one,
-//! `specs/Cutting.antt` what cutting answers, `specs/Inverse.antt` what comes of a merged frame that is cut,
-//! `specs/Causes.antt` the numbers of causes; what its address owns is `heap_owns_any` of `on_heap`.
+//! (both together), `causes`, `front` (packets without an Ethernet header), `codes`. `specs/Made.antt` says what holds
+//! of an engine where there is one, `specs/Cutting.antt` what cutting answers, `specs/Inverse.antt` what comes of a
+//! merged frame that is cut, `specs/Causes.antt` the numbers of causes, `specs/Front.antt` the Ethernet headers that
+//! are written; what its address owns is `heap_owns_any` of `on_heap`.
 //!
 //! Tests: `contrib/c/burst_check`.
 //!
@@ -50,6 +56,9 @@
 //! - **An engine is in its place or out of it**: a call takes it out, works on it and puts it back, so that each call
 //!   is one of `frame_bursts`, and only these two steps are proved by hand. A struct of zeros is a place without an
 //!   engine, so that what `offload_gro_new` makes can be said in its contract.
+//! - **A packet without an Ethernet header gets one in front of it**, in room that its reader leaves, and no crate
+//!   below knows of packets without: what merges, and each byte that comes back, is the same but for these 14 bytes,
+//!   which all frames of a flow have alike. No byte of a packet is moved.
 //! - **An engine has no frame, and no address of one**: nothing that C lends may be kept in what it owns. So the list
 //!   is passed at each call.
 #![tactic(auto)]
@@ -58,14 +67,16 @@ mod causes;
 mod codes;
 mod cuts;
 mod exports;
+mod front;
 mod handle;
 mod kept;
 mod laws;
 
-pub use causes::offload_why;
+pub use causes::{offload_why, offload_why_apart};
 pub use cuts::{offload_fill_sums, offload_gso_burst};
 pub use exports::offload_gro_burst;
+pub use front::offload_put_ethernet;
 pub use kept::{
     offload_gro_flush, offload_gro_free, offload_gro_merge, offload_gro_new, offload_gro_receive,
 };
-pub use laws::merged_comes_apart;
+pub use laws::{ethernet_stays, merged_comes_apart};

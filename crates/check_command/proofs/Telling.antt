@@ -153,7 +153,6 @@ none_checked first blocks o place a old is_flushed rose =
 -- the rounds that are made of these options
 abbrev fresh : MergeOptions → RoundsState → RoundsState
 fresh o rounds = record {
-  home = o.blocks;
   stock = rounds.stock;
   blocks = o.blocks;
   taken = 0;

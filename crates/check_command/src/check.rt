@@ -157,7 +157,7 @@ fn count_behind<R: Threads + Wait + Sync, S: Source + Send, G: Gate + Sync>(
     totals: &mut Totals,
     gate: &G,
 ) -> CheckEnd
-    requires home { rounds.old.home ≡ rounds.old.blocks }
+    requires home { length rounds.old.stock ≡ rounds.old.blocks }
     requires keep { rounds.old.keep ≡ true }
     requires start { totals.old ≡ totals_of (rounds_options rounds.old) [] }
     ensures checked { CheckedRounds rounds.old rounds.new (first_place file Ethernet 0)

@@ -1,5 +1,5 @@
 -- What a check of a whole capture says, as one fact.
-use Rattle.std.specs.Prelude.{◌≡◌, ℕ, ◌≤◌, ◌^◌}
+use Rattle.std.specs.Prelude.{◌≡◌, ℕ, ◌≤◌, ◌^◌, length}
 use Rattle.block_pool.specs.PoolState.{weighed}
 use Rattle.off_io.specs.Faults.{Rose}
 use Rattle.off_io.specs.Told.{Told}
@@ -21,7 +21,7 @@ pub record Checked (old new : RoundsState) (place : Place) (from to : Drawn) (be
   pub given : Told from.left to.left (Tallies (counting old.blocks (options_of old) place) before after (ending_of end))
   pub lanes : HasLanes (options_of old) after
   pub within : IsWithin (2 ^ 50) (2 ^ 62) after
-  pub home : new.home ≡ new.blocks
+  pub home : length new.stock ≡ new.blocks
   pub named : (h : ℕ → ℕ) → weighed h new.stock ≡ weighed h old.stock
   pub same : (new.blocks ≡ old.blocks) × (options_of new ≡ options_of old) × (new.keep ≡ old.keep)
   pub taken : Told from.left to.left (TakesTo old.blocks old.budget place old.taken new.taken (ending_of end))

@@ -1,27 +1,20 @@
-//! Checks the records of a capture, round by round.
-ghost use Rattle.std.specs.Prelude.{◌≡◌, [], List, length, map, true, IfOk, OnOk};
-ghost use Rattle.pcap_io.specs.declared.heads.Link.TheVariants.{Ethernet};
+//! Counts the rounds of a capture, each once it was compared with its packets.
+ghost use Rattle.std.specs.Prelude.{◌≡◌, List, length, map, true, IfOk, OnOk};
 ghost use Rattle.pcap_io.specs.Capture.{Packet};
-ghost use Rattle.pcap_io.specs.Places.{IsReady};
-ghost use Rattle.pcap_io.specs.Readers.{place_of, source_of, SameLoan};
 ghost use Rattle.gro.specs.Slots.{packet_of};
 ghost use Rattle.checking.specs.Compared.{compared_work, MayCompareWork};
-ghost use Rattle.check_totals.specs.Counts.{added, round_totals, totals_of};
+ghost use Rattle.check_totals.specs.Counts.{added, round_totals};
 ghost use Rattle.rounds.specs.Benches.{options_at, Brings, GivesSpares, MayBring};
-ghost use Rattle.rounds.specs.Handled.{source_at};
 ghost use Rattle.rounds.specs.Lanes.{IsKeptWorkOf};
-ghost use Rattle.rounds.specs.Merging.{options_of};
 ghost use Rattle.rounds.specs.Weights.{weights_worked};
 ghost use Rattle.checking.specs.Handling.{CountsLast, IsCounted, MayCount};
-ghost use Rattle.checking.specs.Whole.{Checked};
 
 use crate::round::check_bench;
 use block_pool::{Giver, Pool};
 use check_totals::Totals;
 use lanes::Works;
-use off_io::Source;
-use pcap_io::{CapFault, CaptureReader};
-use rounds::{Bench, Round, RoundEnd, RoundHandler, RoundRead, Rounds, Worked, handle_from};
+use pcap_io::CapFault;
+use rounds::{Bench, Round, RoundEnd, RoundHandler, RoundRead, Worked};
 use std::alloc::AllocError;
 
 /// How checking ended.
@@ -96,7 +89,9 @@ fn last_round<W: Works>(
     }
 }
 
-/// Each round is compared with its packets, and what it counts is added to totals.
+/// Checks the rounds of a capture: each is worked, compared with its packets and ended, and what it counts is added to
+/// totals. Behind a full round more may follow; any other ends checking, as `CheckEnd` says, and one that exceeds the
+/// blocks isn't counted.
 #[derive(Drop)]
 pub struct Counting;
 
@@ -159,29 +154,4 @@ impl RoundHandler<Totals, CheckEnd> for Counting {
     fn stop(&self) -> CheckEnd {
         CheckEnd::NoMemory
     }
-}
-
-/// Checks the records of a capture, round by round, up to its end: each round is read, worked, compared with its
-/// packets and ended, and what it counts is added to the totals.
-///
-/// The rounds keep a clone of each packet, and the totals begin with those of no packet, of as many queues and taps.
-/// Of `checked`, `given` says of each ending what was read and counted. A read fault only where the source's count of
-/// faults rose. All blocks are home again, whatever the ending.
-pub fn check_all<W: Works, S: Source>(
-    works: &mut W,
-    rounds: &mut Rounds,
-    reader: &mut CaptureReader<'_, S>,
-    totals: &mut Totals,
-) -> CheckEnd
-    requires ready { IsReady (place_of reader.old) }
-    requires link { (place_of reader.old).link ≡ Ethernet }
-    requires home { rounds.old.home ≡ rounds.old.blocks }
-    requires keep { rounds.old.keep ≡ true }
-    requires start { totals.old ≡ totals_of (options_of rounds.old) [] }
-    ensures same_source { SameLoan reader.old reader.new }
-    ensures checked { Checked rounds.old rounds.new (place_of reader.old)
-        (source_at S.left S.faults (source_of reader.old)) (source_at S.left S.faults (source_of reader.new))
-        totals.old totals.new result }
-{
-    handle_from(works, rounds, reader, &Counting, totals, 0)
 }

@@ -1,5 +1,5 @@
 //! Checks a capture by two sides, with all who run lanes beside them.
-ghost use Rattle.std.specs.Prelude.{◌≡◌, [], true};
+ghost use Rattle.std.specs.Prelude.{◌≡◌, [], true, length};
 ghost use Rattle.pcap_io.specs.declared.heads.Link.TheVariants.{Ethernet};
 ghost use Rattle.pcap_io.specs.Places.{IsReady};
 ghost use Rattle.pcap_io.specs.Readers.{place_of, source_of, SameLoan};
@@ -18,10 +18,15 @@ use std::alloc::Global;
 use std::sync::Wait;
 use std::thread::Threads;
 
-/// Checks as `check_all`, whose clause this is, but that the next rounds are read while one is worked, from the
-/// first one on, and that all threads are started once, for the whole run. On one processor, and where there is no
-/// memory or no thread for a second side, reading is done in the thread that calls; where there is none for those who
-/// run lanes, their work too.
+/// Checks the records of a capture, round by round, up to its end: each round is read, worked, compared with its
+/// packets and ended, and what it counts is added to the totals. The next rounds are read while one is worked, from the
+/// first one on, and all threads are started once, for the whole run. On one processor, and where there is no memory or
+/// no thread for a second side, reading is done in the thread that calls; where there is none for those who run lanes,
+/// their work too.
+///
+/// The rounds keep a clone of each packet, and the totals begin with those of no packet, of as many queues and taps.
+/// Of `checked`, `given` says of each ending what was read and counted. A read fault only where the source's count of
+/// faults rose. All blocks are home again, whatever the ending.
 pub fn check_beside<R: Threads + Wait + Sync, S: Source + Send, G: Gate + Sync>(
     rt: &R,
     alloc: Global,
@@ -32,7 +37,7 @@ pub fn check_beside<R: Threads + Wait + Sync, S: Source + Send, G: Gate + Sync>(
 ) -> CheckEnd
     requires ready { IsReady (place_of reader.old) }
     requires link { (place_of reader.old).link ≡ Ethernet }
-    requires home { rounds.old.home ≡ rounds.old.blocks }
+    requires home { length rounds.old.stock ≡ rounds.old.blocks }
     requires keep { rounds.old.keep ≡ true }
     requires start { totals.old ≡ totals_of (options_of rounds.old) [] }
     ensures same_source { SameLoan reader.old reader.new }

@@ -1,5 +1,5 @@
 //! The rounds of a command that merges, over one pool of blocks.
-ghost use Rattle.std.specs.Prelude.{◌≡◌, IfOk};
+ghost use Rattle.std.specs.Prelude.{◌≡◌, length, IfOk};
 ghost use Rattle.offload_words.specs.Merge.{IsInRange};
 ghost use Rattle.command_rounds.specs.Plans.{plan_of};
 
@@ -12,7 +12,6 @@ use std::alloc::{AllocError, Global};
 pub fn make_rounds(alloc: Global, options: MergeOptions, keep: bool) -> Result<Rounds, AllocError>
     requires range { IsInRange options }
     ensures made { IfOk result (λ rounds. rounds ≡ record {
-      home = options.blocks;
       stock = rounds.stock;
       blocks = options.blocks;
       taken = 0;
@@ -23,6 +22,7 @@ pub fn make_rounds(alloc: Global, options: MergeOptions, keep: bool) -> Result<R
       plan = plan_of options;
       keep = keep;
     }) }
+    ensures stock { IfOk result (λ rounds. length rounds.stock ≡ options.blocks) }
 {
     let MergeOptions {
         queues,

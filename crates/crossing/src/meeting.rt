@@ -1,7 +1,7 @@
 //! What arrives while rounds are read.
 ghost use Rattle.std.specs.Prelude.{◌≡◌, ℕ, ◌+◌, ◌-◌, ◌<◌, ◌≤◌, ◌^◌, true, false, min};
 ghost use Rattle.block_pool.specs.PoolState.{home};
-ghost use Rattle.crossing.specs.Arriving.{brought_to, weights_to, Meets};
+ghost use Rattle.crossing.specs.Arriving.{weights_to, Meets};
 
 use crate::arrivals::Arrivals;
 use crate::post::Post;
@@ -19,7 +19,6 @@ const MOST_LISTS: u32 = 219;
 impl<W: Post + Drop> Arrivals<W> {
     // The memory of a list goes away with a round again, once its blocks are home.
     fn keep_spent(&mut self)
-        ensures sum { brought_to self.new ≡ brought_to self.old }
         ensures named { (h : ℕ → ℕ) → weights_to self.new h ≡ weights_to self.old h }
         ensures same { self.new.taker.pass ≡ self.old.taker.pass }
     {

@@ -3,7 +3,7 @@ ghost use Rattle.std.specs.Prelude.{◌≡◌, ℕ, ◌+◌, ◌-◌, ◌<◌, �
 ghost use Rattle.std.specs.Arc.{arc_value};
 ghost use Rattle.block_pool.specs.PassState.{SharedState};
 ghost use Rattle.block_pool.specs.PoolState.{home, weighed};
-ghost use Rattle.block_supply.specs.Lists.{listed_home, weights_home};
+ghost use Rattle.block_supply.specs.Lists.{weights_home};
 
 use crate::handshake::{Ended, Handshake};
 use crate::naming::PoolName;
@@ -25,8 +25,6 @@ pub trait Post {
     /// Whether a list has come: its blocks are home then, as far as there are places. Where blocks are out it says no
     /// only behind a take that found none.
     fn bring_list(&self, taker: &mut Taker, pool: &mut Pool) -> bool
-        ensures sum { home pool.new + listed_home taker.old.pass taker.old.left
-            ≡ home pool.old + listed_home taker.new.pass taker.new.left }
         ensures named { (h : ℕ → ℕ) → weighed h pool.new.blocks + weights_home h taker.old.pass taker.old.left
             ≡ weighed h pool.old.blocks + weights_home h taker.new.pass taker.new.left }
         ensures same { (pool.new.made ≡ pool.old.made) × (pool.new.taken ≡ pool.old.taken) }

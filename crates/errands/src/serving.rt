@@ -87,11 +87,6 @@ impl Parkers {
         })
     }
 
-    /// How many run tasks beside who asks.
-    pub fn runners(&self) -> usize {
-        self.runners.len()
-    }
-
     /// Wakes all who run tasks.
     pub fn wake_runners(&self) {
         for parker in &self.runners {

@@ -75,12 +75,16 @@ module _ (f : List ℕ) (l : Layout) (a : Bool) (e : lengths f l ≡ a) where
       pub merges : payload f l ≡ true → sums f l ≡ true → Mergeable ≡ layout_cause f l
       merges x y = behind2 true true (sym x) (sym y)
 
--- headers stand in the bytes that have their shape
+-- headers stand before the payload, and so in the bytes that have their shape
+pub before_payload : (f : List ℕ) (l : Layout) → shape_of f ≡ Some l
+    → AtHeaders (λ layer at. at + size layer ≤ l.payload_at) l.headers
+before_payload f l e = inside_all 0 l.payload_at l.headers (laid f l e).0
+
 pub headers_in : (f : List ℕ) (l : Layout) → shape_of f ≡ Some l
     → AtHeaders (λ layer at. at + size layer ≤ length f) l.headers
 headers_in f l e =
     let k = laid f l e in
-    headers_map (λ layer at h. omega (arith, h, k.1)) l.headers (inside_all 0 l.payload_at l.headers k.0)
+    headers_map (λ layer at h. omega (arith, h, k.1)) l.headers (before_payload f l e)
 
 -- ---- a frame may be merged exactly where there is no cause
 

@@ -1,1 +1,3 @@
 mod Deciding
+-- two frames have no cause exactly where they may be merged
+pub mod Pairs

@@ -14,7 +14,7 @@ use inet_sum::Partial;
 use wire_fill::are_lengths_right;
 
 /// What a slice holds are bytes.
-fn in_bytes(bytes: &[u8]) -> &[u8]
+pub(crate) fn in_bytes(bytes: &[u8]) -> &[u8]
     ensures same { result.now ≡ bytes.now }
     ensures in_bytes { (k : ℕ) → byte result.now k < 256 }
 {

@@ -84,8 +84,6 @@ pub struct LaneCrew<'a, 'g, G: Gate, N: DeskName, R: Wait> {
     gate: &'g G,
     /// By which this thread gives lists of blocks back.
     rt: &'g R,
-    // How many run tasks beside it.
-    beside: u32,
     // Both are empty between rounds.
     tasks: VecDeque<LaneTask>,
     done: VecDeque<LaneDone>,
@@ -120,7 +118,6 @@ impl<'a, 'g, G: Gate, N: DeskName, R: Wait> LaneCrew<'a, 'g, G, N, R> {
         requires none { asker.log ≡ [] }
         ensures own { IfOk result (λ crew. crew ≡ N.desk) }
     {
-        let beside = parkers.runners().min(LANES) as u32;
         let places = Vec::with_capacity(alloc, LANES)?;
         let tasks = VecDeque::with_capacity(alloc, LANES)?;
         let done = VecDeque::with_capacity(alloc, LANES)?;
@@ -128,7 +125,6 @@ impl<'a, 'g, G: Gate, N: DeskName, R: Wait> LaneCrew<'a, 'g, G, N, R> {
             crew: Crew::new(rt, errands, replies, job, parkers, asker, own, places),
             gate: job.gate,
             rt: job.rt,
-            beside,
             tasks,
             done,
             spare: SpareLoads::new(alloc),
@@ -167,24 +163,12 @@ impl<G: Gate, N: DeskName, R: Wait> Works for LaneCrew<'_, '_, G, N, R> {
 
     ghost gives = { true };
 
-    // Lanes of short frames are all worked here, so there a clone for a tap would serve nobody.
+    // A window takes less time to read here than a clone takes to make and to give back, as long as the packets lie in
+    // the cache. Of few packets nobody can tell, and lanes of short frames are all worked here.
     fn reads_here(&self, packets: &Packets) -> bool {
         let mut lengths = FrameLengths::new();
         lengths.add(packets);
-        lengths.are_short()
-    }
-
-    // A clone for a tap that no thread is free for costs more than to read its window here. One tap is read beside the
-    // work at least, and all where there are too few packets to tell.
-    fn taps_beside(&self, plan: &LanePlan, packets: &Packets) -> u32 {
-        if self.reads_here(packets) {
-            return 0;
-        }
-        if packets.len() < SOME_PACKETS || packets.len() > MANY_PACKETS {
-            return plan.taps;
-        }
-        let threads = self.beside.saturating_add(1);
-        threads.saturating_sub(plan.queues).max(1)
+        lengths.are_short() || (SOME_PACKETS..=MANY_PACKETS).contains(&packets.len())
     }
 
     fn pass(&self, tap: u32, point: u32) {

@@ -10,10 +10,10 @@
 //! A [`LaneCrew`] works by `errands`: threads that live for a whole run ([`serve_lanes`]) take the lanes of its rounds
 //! from a desk ([`open_desk`]), so no thread is started in a round, and what the crew holds is reserved before. A lane
 //! that has nothing to do is no task, and where one lane alone has something to do, whoever asks does it; so it does
-//! with all lanes where frames are short (`have_short_frames`): there taps get no clones, and their windows are read
-//! where packets lie (`reads_here`). Of long frames as many taps get clones as threads are left beside the queues, one
-//! at least; the others are read where packets lie, since nobody else is free for them (`taps_beside`). A thread that
-//! can't be made costs nothing. The tasks of taps share the filter by `lanes::SharedProgram`.
+//! with all lanes where frames are short (`have_short_frames`). Taps get clones, and read them as tasks, in rounds of
+//! fewer than 16 packets and of more than 256 long ones; in all others their windows are read where packets lie, which
+//! takes less time than a clone does (`reads_here`). A thread that can't be made costs nothing. The tasks of taps share
+//! the filter by `lanes::SharedProgram`.
 //!
 //! Where blocks are lent that may go back while lanes are worked, each task carries as many as any other, a queue's or
 //! a tap's, and a pass of its own, unless there are fewer blocks than tasks. It gives them as soon as its lane is

@@ -192,18 +192,10 @@ fn fill_taps<W: Works>(
     ensures after { AreAfter 9 packets.old.items packets.new.items }
     ensures serves { Serves true plan.now packets.old.items packets.new.items lanes.old lanes.new result }
 {
-    let beside = works.taps_beside(plan, packets);
+    let beside = !works.reads_here(packets);
     for i in 0..lanes.len() {
         let tap = i as u32;
-        serve_tap(
-            works,
-            plan,
-            tap < beside,
-            &mut lanes[i],
-            tap,
-            count,
-            packets,
-        )?;
+        serve_tap(works, plan, beside, &mut lanes[i], tap, count, packets)?;
     }
     Ok(())
 }

@@ -28,10 +28,9 @@
 //!
 //! Only what is cloned is shared. Where taps get clones, whoever has the packets shares their heads first
 //! (`gro::Packets::share_heads`), and each clone takes of a block's weight. A tap that the thread that calls reads for
-//! wants no clone: it reads the packets before any goes to its queue, and no count word is stepped for it. So read all
-//! taps where others would be of no use (`reads_here` of [`Works`]), and else those for which there is no other thread
-//! (`taps_beside`). In the first case, and without taps, nothing is asked of the heads, nothing is counted, and packets
-//! of which nobody shares a block come out of the work as such.
+//! wants no clone: it reads the packets before any goes to its queue, and no count word is stepped for it. So taps read
+//! where others would be of no use (`reads_here` of [`Works`]). Then, and without taps, nothing is asked of the heads,
+//! nothing is counted, and packets of which nobody shares a block come out of the work as such.
 //!
 //! Blocks that a round has and that no packet holds, its spares, lie in no lane. Where others read the next round
 //! beside the work they are lent with a `block_pool::Giver`, and go to the pool that these take lists from as soon as a

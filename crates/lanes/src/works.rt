@@ -20,10 +20,6 @@ pub trait Works {
     /// Whether taps best read these packets where they lie, in the thread that calls, and not as lanes of their own.
     fn reads_here(&self, packets: &Packets) -> bool;
 
-    /// How many taps best get clones of these packets, so that others read for them beside the work. Those behind them
-    /// read the packets where they lie.
-    fn taps_beside(&self, plan: &LanePlan, packets: &Packets) -> u32;
-
     /// A tap's task passes the gate, as lanes do: at point 0 before its work and at point 1 after it.
     fn pass(&self, tap: u32, point: u32);
 
@@ -53,10 +49,6 @@ impl<G: Gate> Works for Alone<'_, G> {
         true
     }
 
-    fn taps_beside(&self, _plan: &LanePlan, _packets: &Packets) -> u32 {
-        0
-    }
-
     fn pass(&self, tap: u32, point: u32) {
         self.gate.pass(Who::Tap(tap), point);
     }
@@ -81,10 +73,6 @@ impl<G: Gate, R: Wait> Works for Beside<'_, G, R> {
 
     fn reads_here(&self, _packets: &Packets) -> bool {
         true
-    }
-
-    fn taps_beside(&self, _plan: &LanePlan, _packets: &Packets) -> u32 {
-        0
     }
 
     fn pass(&self, tap: u32, point: u32) {

@@ -1,5 +1,5 @@
 //! A capture, merged in rounds over one pool of blocks.
-ghost use Rattle.std.specs.Prelude.{◌≡◌, Some, None};
+ghost use Rattle.std.specs.Prelude.{◌≡◌, Some, None, length};
 ghost use Rattle.off_io.specs.Faults.{Rose};
 ghost use Rattle.off_io.specs.Told.{Told};
 ghost use Rattle.pcap_io.specs.declared.heads.Link.TheVariants.{Ethernet, Offload};
@@ -63,7 +63,7 @@ fn merge_behind<R: Threads + Wait + Sync, S: Source + Send, K: Sink, G: Gate + S
     sink: &mut K,
     gate: &G,
 ) -> MergeEnd
-    requires home { rounds.old.home ≡ rounds.old.blocks }
+    requires home { length rounds.old.stock ≡ rounds.old.blocks }
     ensures merged { Merged rounds.old rounds.new (first_place file Ethernet 0) (source_at S.left S.faults source.old)
         (source_at S.left S.faults source.new) (sink_at K.held K.is_flushed K.faults sink.old)
         (sink_at K.held K.is_flushed K.faults sink.new) result }

@@ -5,7 +5,7 @@ use crate::segmenting::cutting::{buffer, merged};
 use crate::tapping::packets::task_over;
 use frags::Outcomes;
 use frame_bursts::{BurstRun, merge_burst};
-use frame_causes::{Cause, why};
+use frame_causes::{Cause, PairCause, why, why_apart};
 use frame_cuts::{CutSegment, cut_frame, fill_frame};
 use frame_layout::{candidate, shape};
 use frame_runs::{Engine, Lent};
@@ -131,17 +131,30 @@ fn example_of_frame_bursts(rt: HostRuntime) {
     assert!(rt; run.headers_length == 54 && run.headers[..54] == MERGED[..54]);
 }
 
+// A frame of so many bytes.
+fn lent(bytes: &[u8], original: u32) -> Lent<'_> {
+    Lent {
+        bytes,
+        original,
+        number: 0,
+    }
+}
+
 #[test]
 fn example_of_frame_causes(rt: HostRuntime) {
     let mut frame = FIRST;
+    let (first, second) = (lent(&FIRST, 58), lent(&SECOND, 56));
     let whole = why(&frame, 58);
     frame[57] = 0;
     let cause = why(&frame, 58); // Cause::Sum: a byte of the payload was changed
+    let apart = why_apart(&second, &first); // PairCause::Longer: the shorter one came first
     let short = why(&frame[..57], 58);
+    let both = why_apart(&first, &second);
     assert_eq!(rt;
         (whole, cause, short),
         (Cause::Mergeable, Cause::Sum, Cause::Cut)
     );
+    assert_eq!(rt; (both, apart), (PairCause::Mergeable, PairCause::Longer));
 }
 
 #[test]

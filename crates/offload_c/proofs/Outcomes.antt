@@ -47,7 +47,7 @@ module _ (passing : List ℕ → Passed) (bytes : Vec ℕ Global) (outcome : Out
 -- ---- over the blocks that were made
 
 pub merged_gives : (blocks budget : ℕ) (plan : LanePlan) (rounds : RoundsState) (start : List ℕ) (bytes : Vec ℕ Global) (outcome : Outcome) (given left : List ℕ) (end : MergeEnd)
-    → rounds ≡ record { home = blocks; stock = rounds.stock; blocks = blocks; taken = 0; empties = 0; pauses = 0; spares = record { lent = 0; given = 0; refused = 0 }; budget = budget; plan = plan; keep = false } → start ≡ [] → IsOutcomeOf end bytes outcome
+    → rounds ≡ record { stock = rounds.stock; blocks = blocks; taken = 0; empties = 0; pauses = 0; spares = record { lent = 0; given = 0; refused = 0 }; budget = budget; plan = plan; keep = false } → start ≡ [] → IsOutcomeOf end bytes outcome
     → Passes (merging_whole rounds.blocks (options_of rounds)) (Some start) (Some bytes.items) (ending_of end) given left → Gives (merging_whole blocks (options_by plan budget) given) outcome
 merged_gives blocks budget plan rounds start bytes outcome given left end made none is p =
     let made_p = subst (λ (s : RoundsState). Passes (merging_whole s.blocks (options_of s)) (Some start) (Some bytes.items) (ending_of end) given left) made p in

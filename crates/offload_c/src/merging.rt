@@ -1,5 +1,5 @@
 //! Merges a capture in memory.
-ghost use Rattle.std.specs.Prelude.{◌≡◌, ◌≤◌, IfOk, IfErr};
+ghost use Rattle.std.specs.Prelude.{◌≡◌, ◌≤◌, IfOk, IfErr, length};
 ghost use Rattle.off_io.specs.Told.{Told};
 ghost use Rattle.pcap_io.specs.declared.heads.Link.TheVariants.{Ethernet};
 ghost use Rattle.pcap_io.specs.Places.{first_place};
@@ -35,7 +35,7 @@ fn merge_from<S: Source, K: Sink>(
     source: &mut S,
     sink: &mut K,
 ) -> MergeEnd
-    requires home { rounds.old.home ≡ rounds.old.blocks }
+    requires home { length rounds.old.stock ≡ rounds.old.blocks }
     ensures given { Told (S.left source.old) (S.left source.new)
         (Passes (merging rounds.old.blocks (options_of rounds.old) (first_place file Ethernet 0)) (K.held sink.old)
         (K.held sink.new) (ending_of result)) }
@@ -46,7 +46,7 @@ fn merge_from<S: Source, K: Sink>(
 
 // Merges a whole capture.
 fn merge_capture<S: Source, K: Sink>(rounds: &mut Rounds, source: &mut S, sink: &mut K) -> MergeEnd
-    requires home { rounds.old.home ≡ rounds.old.blocks }
+    requires home { length rounds.old.stock ≡ rounds.old.blocks }
     ensures given { Told (S.left source.old) (S.left source.new)
         (Passes (merging_whole rounds.old.blocks (options_of rounds.old)) (K.held sink.old) (K.held sink.new)
         (ending_of result)) }

@@ -1,6 +1,6 @@
 -- What an engine tells when a command that read a capture is done: all of its blocks are home, and it took at least as
 -- many as the bytes that were given need, or its count stands at its last value.
-use Rattle.std.specs.Prelude.{◌≡◌, ℕ, ◌-◌, ◌^◌, ◌≤◌, List, min, Option, None, Some, [], ⊤}
+use Rattle.std.specs.Prelude.{◌≡◌, ℕ, ◌-◌, ◌^◌, ◌≤◌, List, min, Option, None, Some, [], ⊤, length}
 use Rattle.off_io.specs.Told.{Told}
 use Rattle.pcap_io.specs.declared.heads.Link.TheVariants.{Ethernet, Offload}
 use Rattle.pcap_io.specs.Capture.{reads}
@@ -27,7 +27,7 @@ segmenting (Some run) = Some (engines.Segment run)
 -- what is left of the source before and after
 abbrev pub HasMerged : ℕ → (List ℕ → ℕ) → Option Engine → Option (List ℕ) → Option (List ℕ) → Type 0
 HasMerged blocks need (Some (engines.Merge rounds)) old new =
-    (rounds.blocks ≡ blocks) × (rounds.home ≡ blocks) × Told old new
+    (rounds.blocks ≡ blocks) × (length rounds.stock ≡ blocks) × Told old new
     (λ given left. min (need given) (2 ^ 64 - 1) ≤ rounds.taken)
 HasMerged blocks need _ old new = ⊥
 
@@ -57,7 +57,7 @@ HasRun (Make o) engine old new = ⊤
 -- where an engine was left it has so many blocks, and all of them are home
 abbrev pub IsMergeHome : ℕ → Option Engine → Type 0
 IsMergeHome blocks None = ⊤
-IsMergeHome blocks (Some (engines.Merge rounds)) = (rounds.blocks ≡ blocks) × (rounds.home ≡ blocks)
+IsMergeHome blocks (Some (engines.Merge rounds)) = (rounds.blocks ≡ blocks) × (length rounds.stock ≡ blocks)
 IsMergeHome blocks (Some (engines.Segment run)) = ⊥
 
 abbrev pub IsSegmentHome : ℕ → Option Engine → Type 0

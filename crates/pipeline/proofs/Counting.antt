@@ -1,41 +1,29 @@
 -- Blocks that are counted on both sides, and once both have ended, over plain numbers.
 use Rattle.std.proofs.Common.{◌≡◌, ◌+◌, ◌-◌, ◌^◌, ◌≤◌, ℕ, min, sym, subst, arith}
 use Rattle.block_pool.specs.PoolState.{PoolState, home}
-use Rattle.block_supply.proofs.Listing.{listed_ones}
-use Rattle.crossing.specs.Arriving.{brought_to, weights_to}
-use Rattle.crossing.specs.declared.arrivals.Arrivals.{Arrivals}
-use Rattle.crossing.specs.declared.post.Post.{Ghosts}
 use Rattle.rounds.specs.Benches.{HasRoom, MayBring}
 use Rattle.rounds.specs.Handled.{FewPauses}
 use Rattle.rounds.specs.RoundsState.{BenchState}
 
--- One side read on from `here` and is at `home`; it sent `sent`, of which `first` were out as it began, and its arrivals was brought blocks of
+-- One side read on from `here` and has `home`; it sent `sent`, of which `first` was out as it began, and its arrivals brought blocks of
 -- lists, none of which was there before. The other one has `list` left and gave `given` of what it got. Of what it didn't get `left` stay, and
 -- `out` come back.
-pub all_counted : {sent waiting taken taken' rest' none rested' taken'' : ℕ} (home here first list given got left out rest : ℕ)
+pub all_counted : {sent waiting taken taken' rest' none rested' taken'' was round read : ℕ} (home here first list given got left out rest : ℕ)
     → home + sent + (taken - rest) ≡ here + first + (taken' - rest') → list + given ≡ got + none → rest' ≤ taken' → taken ≡ 0 → none ≡ 0 → got + waiting ≡ sent → left + out ≡ waiting
-    → rested' ≡ rest' → taken'' ≡ taken' → home + list + rested' + given + left + out ≡ here + first + taken''
-all_counted home here first list given got left out rest a b c d e f g h i = omega arith
+    → rested' ≡ rest' → taken'' ≡ taken' → here ≡ was → first ≡ round + 0 → round ≡ read → home + list + rested' + given + left + out ≡ was + read + taken''
+all_counted home here first list given got left out rest a b c d e f g h i j k l = omega arith
 
--- what is out and what is at home are all
-pub all_out : {here first home round read blocks : ℕ} → here ≡ home → first ≡ round + 0 → round ≡ read → home + read ≡ blocks → here + first ≡ blocks
-all_out a b c d = omega arith
+-- by their number, where each weighs 1
+pub all_counts : {blocks new homes lists rests gave was : ℕ} (home list rest given left out stock read taken : ℕ) → homes + lists + rests + gave + left + out ≡ stock + read + taken
+    → homes ≡ home → lists ≡ list → rests ≡ rest → gave ≡ given → stock ≡ was → was + read ≡ blocks → new ≡ blocks → home + list + rest + given ≤ new + taken
+all_counts home list rest given left out stock read taken a b c d e f g h = omega arith
 
--- What they weigh is counted alike; a sum more has them home, but for what stays.
-pub all_weighed : {here sent first waiting taken taken' rest' none rested' taken'' new round read was : ℕ} (home list given got left out rest mid : ℕ)
-    → home + sent + (taken - rest) ≡ here + first + (taken' - rest') → list + given ≡ got + none → rest' ≤ taken' → taken ≡ 0 → none ≡ 0 → got + waiting ≡ sent → left + out ≡ waiting
-    → rested' ≡ rest' → taken'' ≡ taken' → mid + taken'' ≡ home + list + rested' + given → new ≡ mid + left → here ≡ was → first ≡ round + 0 → round ≡ read → new + out ≡ was + read
-all_weighed home list given got left out rest mid a b c d e f g h i j k l m n = omega arith
+-- a sum more has them home, but for what stays
+pub whole_home : {sum : ℕ} (mid taken left out stock read : ℕ) → mid + taken ≡ sum → sum + left + out ≡ stock + read + taken → mid + left + out ≡ stock + read
+whole_home mid taken left out stock read a b = omega arith
 
--- there is room for what comes home, and for what is left in the ring; with what comes back these are all
-pub room_home : {sum blocks new : ℕ} (left out taken : ℕ) → sum + left + out ≡ blocks + taken → new ≡ blocks → sum ≤ new + taken
-room_home left out taken a b = omega arith
-
-pub room_left : {sum blocks new : ℕ} (mid taken left out : ℕ) → mid + taken ≡ sum → sum + left + out ≡ blocks + taken → new ≡ blocks → mid + left ≤ new
-room_left mid taken left out a b c = omega arith
-
-pub whole_home : {sum blocks : ℕ} (mid taken left out : ℕ) → mid + taken ≡ sum → sum + left + out ≡ blocks + taken → mid + left + out ≡ blocks
-whole_home mid taken left out a b = omega arith
+pub room_left : {mids stock was blocks new : ℕ} (mid left out read : ℕ) → mids + left + out ≡ stock + read → mids ≡ mid → stock ≡ was → was + read ≡ blocks → new ≡ blocks → mid + left ≤ new
+room_left mid left out read a b c d e = omega arith
 
 -- pauses by the takes that were counted in the reading side's pass, where none was counted before
 pub few_home : {asked' paused paused' first first' new new' old taken : ℕ} (asked : ℕ) → FewPauses asked paused asked' paused' → new ≡ paused' → paused ≡ first → new' ≡ min (old + taken) (2 ^ 64 - 1)
@@ -62,10 +50,6 @@ pub room_back : (b i room kept home old : ℕ) → b ≡ i → b + b ≤ room + 
 room_back b i room kept home old e r l = omega arith
 
 -- ---- the side that reads
-
--- what came to a arrivals is counted too, by weights of 1
-pub counted_to : {W : Type 0} {G : Ghosts W} (d e : Arrivals W G) (m n : ℕ) → m + weights_to d (λ _. 1) ≡ n + weights_to e (λ _. 1) → m + brought_to d ≡ n + brought_to e
-counted_to d e m n is = omega (arith, is, listed_ones d.taker.pass d.taker.left, listed_ones e.taker.pass e.taker.left)
 
 -- a round more was read and sent: what is home, what was sent and what the arrivals was brought, against the same at first
 pub read_more : {sent' bd br bl : ℕ} (home sent brought here first now mid rest n bb : ℕ) → home + sent + brought ≡ here + first + now → bd ≡ now → mid + bd ≡ home + bb → rest + n + bb ≡ mid + br

@@ -1,11 +1,12 @@
 -- A giver that is lent, and comes back, and what it leaves on a list.
 use Rattle.std.proofs.Common.{ℕ, ◌≡◌, ◌+◌, ◌-◌, ◌^◌, ◌≤◌, ◌⊎◌, inl, inr, min, ◌∙◌, Option, None, Some, refl, sym, ap, subst, arith}
-use Rattle.block_pool.specs.Giving.{GiverState, given_by}
+use Rattle.block_pool.specs.Giving.{GiverState, given_by, weights_given}
 use Rattle.block_pool.specs.PassState.{risen, SharedState}
 use Rattle.block_pool.specs.PoolState.{PoolState, home}
 use Rattle.rounds.specs.Benches.{fulls_by, GivesSpares, IsLent, Lends, UnlessFull}
 use Rattle.rounds.specs.declared.spares.Spares.{Spares}
 use Rattle.rounds.specs.Handled.{GaveSpares}
+use Rattle.block_supply.proofs.Listing.{ones}
 use Rattle.block_supply.specs.Lists.{HasGiver}
 use Rattle.pipeline.specs.Parcels.{CountsSpares, IsLeft, Returns}
 
@@ -43,10 +44,15 @@ pub given_least : (old new : Option GiverState) → Lends old new → given_by o
 given_least None new lends = omega arith
 given_least (Some g) new lends = omega (arith, lends.2.least, ap given_by lends.1)
 
+-- by weights of 1 that is how many blocks
+pub given_ones : (g : Option GiverState) → weights_given g (λ _. 1) ≡ given_by g
+given_ones None = refl
+given_ones (Some g) = refl
+
 -- ---- what goes back by it
 
 pub returns_fewer : (old new : Option GiverState) (list list' : PoolState) → Returns old new list list' → home list' ≤ home list
-returns_fewer old new list list' r = omega (arith, r.sum, given_least old new r.gave)
+returns_fewer old new list list' r = omega (arith, r.named (λ _. 1), ones list.blocks, ones list'.blocks, given_ones old, given_ones new, given_least old new r.gave)
 
 -- ---- what is left
 

@@ -4,21 +4,13 @@ use Rattle.pcap_io.specs.declared.place.Place.{Place}
 use Rattle.rounds.specs.declared.round.RoundRead.{RoundRead}
 use Rattle.rounds.specs.Reads.{Spot, spot, ReadRound}
 use Rattle.pipeline.specs.declared.parcel.Parcel.{Parcel}
-use Rattle.pipeline.specs.Parcels.{blocks_of, last_blocks, packets_of, rounds_of, spares_before, spares_of, weights_sent}
+use Rattle.pipeline.specs.Parcels.{last_blocks, packets_of, rounds_of, spares_before, spares_of, weights_sent}
 
 -- ---- lists
 
 pub none_known : {A : Type 0} (xs : List A) → length xs ≤ 0 → xs ≡ []
 none_known [] e = refl
 none_known (x ∷ xs) e = absurd (omega (arith, e))
-
-pub blocks_last : (xs : List Parcel) (x : Parcel) → blocks_of (xs ++ x ∷ []) ≡ blocks_of xs + blocks_of (x ∷ [])
-blocks_last [] x = omega arith
-blocks_last (p ∷ xs) x = omega (arith, blocks_last xs x)
-
-pub blocks_append : (xs ys : List Parcel) → blocks_of (xs ++ ys) ≡ blocks_of xs + blocks_of ys
-blocks_append [] ys = omega arith
-blocks_append (p ∷ xs) ys = omega (arith, blocks_append xs ys)
 
 pub spares_last : (xs : List Parcel) (x : Parcel) → spares_of (xs ++ x ∷ []) ≡ spares_of xs + length x.read.round.spares
 spares_last [] x = omega arith

@@ -13,11 +13,12 @@ use Rattle.rounds.specs.Benches.{AreOne, HasRoom, IsSameBench}
 use Rattle.rounds.specs.RoundsState.{BenchState, RoundsState, IntakeState}
 use Rattle.rounds.specs.Weights.{weights_of}
 use Rattle.pipeline.specs.declared.parcel.Parcel.{Parcel}
-use Rattle.pipeline.specs.Handled.{RanOn, HandledOn, MayGoOn, IsOut, Idle, MayBeHandled, ComesBack, blocks_out, weights_out}
-use Rattle.pipeline.specs.Parcels.{blocks_of, rounds_of, weights_sent}
+use Rattle.pipeline.specs.Handled.{RanOn, HandledOn, MayGoOn, IsOut, Idle, MayBeHandled, ComesBack, weights_out}
+use Rattle.pipeline.specs.Parcels.{rounds_of, weights_sent}
 use Rattle.pipeline.specs.Reads.{ReadOn, IsAlone}
 use Rattle.rounds.proofs.Going.{counted_as, few_none, few_then, gave_none, gave_then, ready_as}
 use Rattle.rounds.proofs.Rows.{reads_least}
+use Rattle.block_supply.proofs.Listing.{ones}
 use Rattle.pipeline.proofs.Counting.{least_same, most_same, room_back}
 use Rattle.pipeline.proofs.Kept.{bench_then}
 use Rattle.pipeline.proofs.Rows.{none_known, rounds_append}
@@ -41,7 +42,7 @@ front_of none (read ∷ rs) = read
 
 -- they may be lent again: one read on from `i` and is at `mid`, what lay between them came home, and the other one has the bench
 pub one_again : (i mid new : IntakeState) (b here last : BenchState) (kept : ℕ) → AreOne i b → IsSameBench b here → (mid.blocks ≡ i.blocks) × (mid.budget ≡ i.budget) × (mid.empties ≡ i.empties)
-    → IsSameBench here last → HasRoom kept last → new ≡ record mid { home = new.home; stock = new.stock; empties = new.empties } → mid.home + kept ≤ new.home → AreOne new last
+    → IsSameBench here last → HasRoom kept last → new ≡ record mid { stock = new.stock; empties = new.empties } → length mid.stock + kept ≤ length new.stock → AreOne new last
 one_again i mid new b here last kept one p same k room f least =
     let bench = bench_then b here last p k in
     let blocks : last.blocks ≡ new.blocks = ap (λ (x : BenchState). x.blocks) bench ∙ one.blocks ∙ sym same.0 ∙ sym (ap (λ (x : IntakeState). x.blocks) f) in
@@ -50,16 +51,15 @@ one_again i mid new b here last kept one p same k room f least =
       blocks = blocks;
       budget = ap (λ (x : BenchState). x.budget) bench ∙ one.budget ∙ sym budget;
       few = (least_same 1 i.budget new.budget budget one.few.0, most_same i.budget 4096 new.budget budget one.few.1);
-      room = room_back last.blocks new.blocks last.room kept new.home mid.home blocks room least;
+      room = room_back last.blocks new.blocks last.room kept (length new.stock) (length mid.stock) blocks room least;
     }
 
 -- both sides were lent, one read with this intake, and so it is once both have ended
-pub record Lent (state new : RoundsState) (intake : IntakeState) (home back : ℕ) : Type 0 where
+pub record Lent (state new : RoundsState) (intake : IntakeState) (back : ℕ) : Type 0 where
   pub blocks : intake.blocks ≡ state.blocks
   pub budget : intake.budget ≡ state.budget
   pub before : intake.taken ≡ state.taken
   pub same : (new.blocks ≡ state.blocks) × (options_of new ≡ options_of state) × (new.keep ≡ state.keep)
-  pub all : new.home ≡ home
   pub after : new.taken ≡ back
   pub pauses : FewPauses state.empties state.pauses new.empties new.pauses
   pub gives : GaveSpares state.spares new.spares
@@ -67,7 +67,8 @@ pub record Lent (state new : RoundsState) (intake : IntakeState) (home back : �
 -- The first round was read and full, and alone in the ring as the sides began. What was received of all that was sent, and what wasn't,
 -- is known once they have joined.
 pub record Sent (state : RoundsState) (intake : IntakeState) (read : RoundRead) (at to : Spot) (back : ℕ) (one sent got known : List Parcel) : Type 0 where
-  pub out : state.home + read.round.blocks ≡ state.blocks
+  pub out : length state.stock + read.round.blocks ≡ state.blocks
+  pub weighs : weights_of read.round (λ _. 1) ≡ read.round.blocks
   pub full : read.end ≡ rounds.Full
   pub few : state.taken < 2 ^ 64
   pub alone : IsAlone read one
@@ -75,8 +76,8 @@ pub record Sent (state : RoundsState) (intake : IntakeState) (read : RoundRead) 
   pub fifo : got ++ known ≡ sent
   pub later : at.faults ≤ to.faults
 
-module _ {T E : Type 0} (did : T → T → RoundRead → ℕ → Option E → Type 0) (stopped : E) (ready : ℕ → T → Type 0) (state new : RoundsState) (intake : IntakeState) (home back : ℕ)
-    (read : RoundRead) (at to : Spot) (one sent got known : List Parcel) (re : Lent state new intake home back) (s : Sent state intake read at to back one sent got known)
+module _ {T E : Type 0} (did : T → T → RoundRead → ℕ → Option E → Type 0) (stopped : E) (ready : ℕ → T → Type 0) (state new : RoundsState) (intake : IntakeState) (back : ℕ)
+    (read : RoundRead) (at to : Spot) (one sent got known : List Parcel) (re : Lent state new intake back) (s : Sent state intake read at to back one sent got known)
     (was is : T) (counted : IsReadyAtEnd ready is) where
   abbrev first : Spot
   first = record at { taken = state.taken }
@@ -89,9 +90,12 @@ module _ {T E : Type 0} (did : T → T → RoundRead → ℕ → Option E → Ty
       reads_as state.blocks intake.blocks state.budget intake.budget first (record at { taken = intake.taken }) last (record to { taken = back }) s.on.more s.on.more
       re.blocks re.budget (ap (λ (n : ℕ). record at { taken = n }) re.before) (ap (λ (n : ℕ). record to { taken = n }) (sym re.after)) refl s.on.reads
 
-  all_rest : home ≡ state.blocks → Rests state new first last
-  all_rest all = record {
-    home = re.all ∙ all ∙ sym re.same.0;
+  abbrev IsBrought : Type 0
+  IsBrought = (h : ℕ → ℕ) → weighed h new.stock ≡ weighed h state.stock + weights_of read.round h
+
+  all_rest : IsBrought → Rests state new first last
+  all_rest brought = record {
+    home = omega (arith, brought (λ _. 1), ones new.stock, ones state.stock, s.out, s.weighs, re.same.0);
     same = re.same;
     least = omega (arith, s.few, reads_least state.blocks state.budget first last s.on.more read_behind);
     pauses = re.pauses;
@@ -112,34 +116,30 @@ module _ {T E : Type 0} (did : T → T → RoundRead → ℕ → Option E → Ty
   abbrev IsBroughtBut : Result E RoundRead → Type 0
   IsBroughtBut result = (h : ℕ → ℕ) → weighed h new.stock + weights_out result h ≡ weighed h state.stock + weights_of read.round h
 
-  abbrev IsBrought : Type 0
-  IsBrought = (h : ℕ → ℕ) → weighed h new.stock ≡ weighed h state.stock + weights_of read.round h
-
   -- the side that works says how it ended, whatever was read behind that
-  both_went : (end : E) → home ≡ state.blocks → IsBrought → Ends did stopped 0 was is (rounds_of got) end → HandledOn did stopped ready state new read first last was is end
-  both_went end all brought ends = record {
+  both_went : (end : E) → IsBrought → Ends did stopped 0 was is (rounds_of got) end → HandledOn did stopped ready state new read first last was is end
+  both_went end brought ends = record {
     ran = record { got = rounds_of got; more = rounds_of known; rest = s.on.more; all = all_is; closes = closed; reads = read_behind; ends = ends };
-    rests = all_rest all;
+    rests = all_rest brought;
     named = brought;
     counted = counted;
   }
 
   -- no side worked, and rounds were lost
-  none_went : home ≡ state.blocks → IsBrought → is ≡ was → HandledOn did stopped ready state new read first last was is stopped
-  none_went all brought same = record {
+  none_went : IsBrought → is ≡ was → HandledOn did stopped ready state new read first last was is stopped
+  none_went brought same = record {
     ran = record { got = []; more = read ∷ s.on.more; rest = s.on.more; all = refl; closes = closed; reads = read_behind; ends = (refl, same) };
-    rests = all_rest all;
+    rests = all_rest brought;
     named = brought;
     counted = counted;
   }
 
   -- nothing else was read
-  idle : length sent ≡ 1 → rounds_of sent ≡ read ∷ [] → home ≡ state.home → ((h : ℕ → ℕ) → weighed h new.stock ≡ weighed h state.stock) → is ≡ was → Idle state new first last was is
-  idle count alone homes named same =
+  idle : length sent ≡ 1 → rounds_of sent ≡ read ∷ [] → ((h : ℕ → ℕ) → weighed h new.stock ≡ weighed h state.stock) → is ≡ was → Idle state new first last was is
+  idle count alone named same =
       let none : s.on.more ≡ [] = none_known s.on.more (omega (arith, ap length (sym alone ∙ s.on.sent), length-append (rounds_of one) s.on.more, ap length first_is)) in
       let stands : last ≡ first = subst (λ (l : List RoundRead). Reads state.blocks state.budget first l last) none read_behind in
       record {
-        home = re.all ∙ homes;
         named = named;
         same = re.same;
         taken = ap (λ (x : Spot). x.taken) stands;
@@ -153,26 +153,26 @@ module _ {T E : Type 0} (did : T → T → RoundRead → ℕ → Option E → Ty
   Came result = MayBeHandled did stopped ready state new read first last was is result
 
   -- no side worked
-  unworked : (result : Result E RoundRead) (left : List Parcel) → home + blocks_out result ≡ state.blocks → IsBroughtBut result → (got ≡ []) × (is ≡ was)
+  unworked : (result : Result E RoundRead) (left : List Parcel) → IsBroughtBut result → (got ≡ []) × (is ≡ was)
       → ComesBack stopped known left result → Came result
-  unworked (Ok end) left all brought none back = subst (λ (e : E). Came (Ok e)) (sym back.0) (none_went (omega (arith, all)) (λ h. omega (arith, brought h)) none.1)
-  unworked (Err x) left all brought none back =
+  unworked (Ok end) left brought none back = subst (λ (e : E). Came (Ok e)) (sym back.0) (none_went (λ h. omega (arith, brought h)) none.1)
+  unworked (Err x) left brought none back =
       let sent_is : sent ≡ back.0 ∷ [] = sym s.fifo ∙ ap (λ (l : List Parcel). l ++ known) none.0 ∙ back.2 in
       let front : back.0.read ∷ [] ≡ read ∷ s.on.more = sym (ap rounds_of sent_is) ∙ s.on.sent ∙ ap (λ (rs : List RoundRead). rs ++ s.on.more) first_is in
       let same : back.0.read ≡ read = ap (front_of back.0.read) front in
       let is_read : x ≡ read = sym back.1 ∙ same in (
         is_read,
-        idle (ap length sent_is) (ap rounds_of sent_is ∙ ap (λ (r : RoundRead). r ∷ []) same) (omega (arith, all, s.out, ap (λ (r : RoundRead). r.round.blocks) is_read))
+        idle (ap length sent_is) (ap rounds_of sent_is ∙ ap (λ (r : RoundRead). r ∷ []) same)
             (λ h. omega (arith, brought h, ap (λ (r : RoundRead). weights_of r.round h) is_read)) none.1,
       )
 
   -- whether a side worked or not
-  pub all_went : (end : Option E) (result : Result E RoundRead) (left : List Parcel) → home + blocks_out result ≡ state.blocks → IsBroughtBut result
+  pub all_went : (end : Option E) (result : Result E RoundRead) (left : List Parcel) → IsBroughtBut result
       → MatchOption end ((got ≡ []) × (is ≡ was)) (λ e. Ends did stopped 0 was is (rounds_of got) e)
       → IfSome end (λ e. (result ≡ Ok e) × (left ≡ known)) → (end ≡ None → ComesBack stopped known left result) → Came result
-  all_went (Some end) result left all brought ends some none =
-      subst Came (sym some.0) (both_went end (omega (arith, all, ap blocks_out some.0)) (λ h. omega (arith, brought h, ap (λ r. weights_out r h) some.0)) ends)
-  all_went None result left all brought ends some none = unworked result left all brought ends (none refl)
+  all_went (Some end) result left brought ends some none =
+      subst Came (sym some.0) (both_went end (λ h. omega (arith, brought h, ap (λ r. weights_out r h) some.0)) ends)
+  all_went None result left brought ends some none = unworked result left brought ends (none refl)
 
 -- what the side that works says, by the options of both
 pub ends_as : {T E : Type 0} (did : Options → T → T → RoundRead → ℕ → Option E → Type 0) (stopped : E) (o o' : Options) (got : List Parcel) (was is : T) (end : Option E)
@@ -182,20 +182,11 @@ pub ends_as : {T E : Type 0} (did : Options → T → T → RoundRead → ℕ �
 ends_as did stopped o o' got was is end same ends =
     subst (λ (z : Options). MatchOption end ((got ≡ []) × (is ≡ was)) (λ e. Ends (did z) stopped 0 was is (rounds_of got) e)) same ends
 
--- what of the rounds in the ring is there still, and the one that was taken out
-pub left_out : {E : Type 0} (stopped : E) (end : Option E) (result : Result E RoundRead) (known left : List Parcel) → IfSome end (λ e. (result ≡ Ok e) × (left ≡ known))
-    → (end ≡ None → ComesBack stopped known left result) → blocks_of left + blocks_out result ≡ blocks_of known
-left_out stopped (Some end) result known left some none = omega (arith, ap blocks_of some.1, ap blocks_out some.0)
-left_out stopped None (Ok end) known left some none = omega (arith, (none refl).1)
-left_out stopped None (Err x) known left some none =
-    let back = none refl in
-    omega (arith, ap blocks_of back.2, ap blocks_of back.3, ap (λ (r : RoundRead). r.round.blocks) back.1)
-
--- and what these weigh, each by its name
+-- what the rounds weigh that are in the ring still, and the one that was taken out
 pub left_weights : {E : Type 0} (h : ℕ → ℕ) (stopped : E) (end : Option E) (result : Result E RoundRead) (known left : List Parcel) → IfSome end (λ e. (result ≡ Ok e) × (left ≡ known))
     → (end ≡ None → ComesBack stopped known left result) → weights_sent h left + weights_out result h ≡ weights_sent h known
 left_weights h stopped (Some end) result known left some none = omega (arith, ap (weights_sent h) some.1, ap (λ r. weights_out r h) some.0)
-left_weights h stopped None (Ok end) known left some none = omega (arith, (none refl).2 h)
+left_weights h stopped None (Ok end) known left some none = omega (arith, (none refl).1 h)
 left_weights h stopped None (Err x) known left some none =
     let back = none refl in
     omega (arith, ap (weights_sent h) back.2, ap (weights_sent h) back.3, ap (λ (r : RoundRead). weights_of r.round h) back.1)
@@ -204,7 +195,6 @@ left_weights h stopped None (Err x) known left some none =
 
 pub idle_as : {T : Type 0} (old new : RoundsState) (at : Spot) (was : T) → new ≡ old → Idle old new (record at { taken = old.taken }) (record at { taken = new.taken }) was was
 idle_as old new at was same = record {
-  home = ap (λ (s : RoundsState). s.home) same;
   named = λ h. ap (λ (s : RoundsState). weighed h s.stock) same;
   same = (ap (λ (s : RoundsState). s.blocks) same, ap options_of same, ap (λ (s : RoundsState). s.keep) same);
   taken = ap (λ (s : RoundsState). s.taken) same;
@@ -237,7 +227,7 @@ module _ {T E : Type 0} (did : Options → T → T → RoundRead → ℕ → Opt
       → IsOut (ready (options_of old) old.keep) old read from.place was → IsOut (ready (options_of new) new.keep) new back to.place is
   idle_out old new read back from to was is same idle out =
       let here : IsOut (ready (options_of new) new.keep) new read to.place is = record {
-        out = omega (arith, idle.home, idle.same.0, out.out);
+        out = omega (arith, idle.named (λ _. 1), ones new.stock, ones old.stock, idle.same.0, out.out);
         is = out.is;
         goes = λ full. subst (λ (s : Spot). MayGoOn read s.place) (sym idle.stands) (out.goes full);
         start = ready_as did stopped ready (options_of new) (options_of old) new.keep old.keep 0 is (sym idle.same.1) (sym idle.same.2) (subst (ready (options_of old) old.keep 0) (sym idle.nothing) out.start);
@@ -290,17 +280,17 @@ module _ {T E : Type 0} (did : Options → T → T → RoundRead → ℕ → Opt
 
   -- ---- in one thread
 
-  module _ (old mid : RoundsState) (read : RoundRead) (at : Spot) (was between : T) (out : old.home + read.round.blocks ≡ old.blocks) (few : length read.round.packets ≤ 4096)
-      (put : mid ≡ record old { home = old.home + read.round.blocks; stock = mid.stock })
+  module _ (old mid : RoundsState) (read : RoundRead) (at : Spot) (was between : T) (out : length old.stock + read.round.blocks ≡ old.blocks) (few : length read.round.packets ≤ 4096)
+      (put : (mid ≡ record old { stock = mid.stock }) × (length mid.stock ≡ length old.stock + read.round.blocks))
       (named : (h : ℕ → ℕ) → weighed h mid.stock ≡ weighed h old.stock + weights_of read.round h) (counted : ready (options_of old) old.keep (0 + length read.round.packets) between) where
-    put_home : mid.home ≡ mid.blocks
-    put_home = ap (λ (s : RoundsState). s.home) put ∙ out ∙ sym (ap (λ (s : RoundsState). s.blocks) put)
+    put_home : length mid.stock ≡ mid.blocks
+    put_home = put.1 ∙ out ∙ sym (ap (λ (s : RoundsState). s.blocks) put.0)
 
     put_few : FewPauses old.empties old.pauses mid.empties mid.pauses
-    put_few = few_none old.empties old.pauses mid.empties mid.pauses (omega (arith, ap (λ (s : RoundsState). s.empties) put)) (ap (λ (s : RoundsState). s.pauses) put)
+    put_few = few_none old.empties old.pauses mid.empties mid.pauses (omega (arith, ap (λ (s : RoundsState). s.empties) put.0)) (ap (λ (s : RoundsState). s.pauses) put.0)
 
     put_gave : GaveSpares old.spares mid.spares
-    put_gave = gave_none old.spares mid.spares (ap (λ (s : RoundsState). s.spares) put)
+    put_gave = gave_none old.spares mid.spares (ap (λ (s : RoundsState). s.spares) put.0)
 
     -- the first round ended it
     pub put_ends : (end : E) → did (options_of old) was between read 0 (Some end)
@@ -312,13 +302,13 @@ module _ {T E : Type 0} (did : Options → T → T → RoundRead → ℕ → Opt
         rest = [];
         all = refl;
         closes = λ _. refl;
-        reads = ap (λ (s : RoundsState). record at { taken = s.taken }) put;
+        reads = ap (λ (s : RoundsState). record at { taken = s.taken }) put.0;
         ends = inr (d, refl);
       };
       rests = record {
         home = put_home;
-        same = (ap (λ (s : RoundsState). s.blocks) put, ap options_of put, ap (λ (s : RoundsState). s.keep) put);
-        least = omega (arith, ap (λ (s : RoundsState). s.taken) put);
+        same = (ap (λ (s : RoundsState). s.blocks) put.0, ap options_of put.0, ap (λ (s : RoundsState). s.keep) put.0);
+        least = omega (arith, ap (λ (s : RoundsState). s.taken) put.0);
         pauses = put_few;
         gives = put_gave;
         later = omega arith;
@@ -333,7 +323,7 @@ module _ {T E : Type 0} (did : Options → T → T → RoundRead → ℕ → Opt
         → HandledOn (did (options_of old)) stopped (ready (options_of old) old.keep) old new read (record at { taken = old.taken }) to was is end
     put_goes new to is end d full h =
         let ran : Ran (did (options_of old)) stopped old.blocks old.budget 1 (record at { taken = old.taken }) to between is end =
-        subst (λ (s : RoundsState). Ran (did (options_of s)) stopped s.blocks s.budget 1 (record at { taken = s.taken }) to between is end) put h.ran in
+        subst (λ (s : RoundsState). Ran (did (options_of s)) stopped s.blocks s.budget 1 (record at { taken = s.taken }) to between is end) put.0 h.ran in
         record {
           ran = record {
             got = read ∷ ran.got;
@@ -346,12 +336,12 @@ module _ {T E : Type 0} (did : Options → T → T → RoundRead → ℕ → Opt
           };
           rests = record {
             home = h.rests.home;
-            same = (h.rests.same.0 ∙ ap (λ (s : RoundsState). s.blocks) put, h.rests.same.1 ∙ ap options_of put, h.rests.same.2 ∙ ap (λ (s : RoundsState). s.keep) put);
-            least = omega (arith, h.rests.least, ap (λ (s : RoundsState). s.taken) put);
+            same = (h.rests.same.0 ∙ ap (λ (s : RoundsState). s.blocks) put.0, h.rests.same.1 ∙ ap options_of put.0, h.rests.same.2 ∙ ap (λ (s : RoundsState). s.keep) put.0);
+            least = omega (arith, h.rests.least, ap (λ (s : RoundsState). s.taken) put.0);
             pauses = few_then old.empties old.pauses mid.empties mid.pauses new.empties new.pauses put_few h.rests.pauses;
             gives = gave_then old.spares mid.spares new.spares put_gave h.rests.gives;
             later = h.rests.later;
           };
           named = λ x. omega (arith, h.named x, named x);
-          counted = counted_as did stopped ready (options_of old) (options_of mid) old.keep mid.keep (2 ^ 32 + 4096) is (ap options_of put) (ap (λ (s : RoundsState). s.keep) put) h.counted;
+          counted = counted_as did stopped ready (options_of old) (options_of mid) old.keep mid.keep (2 ^ 32 + 4096) is (ap options_of put.0) (ap (λ (s : RoundsState). s.keep) put.0) h.counted;
         }

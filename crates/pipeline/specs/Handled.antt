@@ -1,7 +1,7 @@
 -- What was done with rounds of which the first was read before.
 use Rattle.std.specs.Prelude.{ℕ, ◌≡◌, ◌+◌, ◌≤◌, false, Option, List, [], ◌∷◌, ◌++◌, length, Result, Ok, Err}
 use Rattle.std.specs.Prelude.{MatchOption}
-use Rattle.block_pool.specs.Giving.{GiverState, given_by, weights_given}
+use Rattle.block_pool.specs.Giving.{GiverState, weights_given}
 use Rattle.block_pool.specs.PoolState.{PoolState, home, weighed}
 use Rattle.pcap_io.specs.declared.heads.Link.TheVariants.{Ethernet}
 use Rattle.pcap_io.specs.declared.place.Place.{Place}
@@ -16,7 +16,7 @@ use Rattle.rounds.specs.Reads.{Spot, Reads, is_full}
 use Rattle.rounds.specs.RoundsState.{BenchState, RoundsState}
 use Rattle.rounds.specs.Weights.{weights_of}
 use Rattle.pipeline.specs.declared.parcel.Parcel.{Parcel}
-use Rattle.pipeline.specs.Parcels.{blocks_of, last_blocks, rounds_of, spares_before, weights_sent, CountsSpares}
+use Rattle.pipeline.specs.Parcels.{last_blocks, rounds_of, spares_before, weights_sent, CountsSpares}
 use Rattle.pipeline.specs.Parcels.{IsLeft}
 
 -- As `Ran` of the rounds says, behind a round that was read up to here, and with it.
@@ -49,7 +49,7 @@ pub record MayGoOn (read : RoundRead) (place : Place) : Type 0 where
 -- a round was read up to here and is out, and nothing is done yet
 pub record IsOut {T : Type 0} (starts : ℕ → T → Type 0) (rounds : RoundsState) (read : RoundRead) (place : Place)
     (into : T) : Type 0 where
-  pub out : rounds.home + read.round.blocks ≡ rounds.blocks
+  pub out : length rounds.stock + read.round.blocks ≡ rounds.blocks
   pub is : IsRead read.round
   pub goes : read.end ≡ ends.Full → MayGoOn read place
   pub start : starts 0 into
@@ -59,12 +59,11 @@ pub record MayHandle {T : Type 0} (starts : ℕ → T → Type 0) (rounds : Roun
     : Type 0 where
   pub ready : IsReady place
   pub link : place.link ≡ Ethernet
-  pub home : rounds.home ≡ rounds.blocks
+  pub home : length rounds.stock ≡ rounds.blocks
   pub start : starts 0 into
 
 -- nothing more was read, nothing was done, and the same blocks are home
 pub record Idle {T : Type 0} (old new : RoundsState) (from to : Spot) (was is : T) : Type 0 where
-  pub home : new.home ≡ old.home
   pub named : (h : ℕ → ℕ) → weighed h new.stock ≡ weighed h old.stock
   pub same : (new.blocks ≡ old.blocks) × (options_of new ≡ options_of old) × (new.keep ≡ old.keep)
   pub taken : new.taken ≡ old.taken
@@ -80,19 +79,14 @@ MayBeHandled did stopped ready old new read at to was is (Ok end) = HandledOn di
     is end
 MayBeHandled did stopped ready old new read at to was is (Err back) = (back ≡ read) × Idle old new at to was is
 
--- the blocks of a round that is there still
-abbrev pub blocks_out : {E : Type 0} → Result E RoundRead → ℕ
-blocks_out (Ok end) = 0
-blocks_out (Err read) = read.round.blocks
-
+-- what a round weighs that is there still
 abbrev pub weights_out : {E : Type 0} → Result E RoundRead → (ℕ → ℕ) → ℕ
 weights_out (Ok end) h = 0
 weights_out (Err read) h = weights_of read.round h
 
 -- of rounds that nobody received the only one comes back; else it was stopped for want of memory
 abbrev pub ComesBack : {E : Type 0} → E → List Parcel → List Parcel → Result E RoundRead → Type 0
-ComesBack stopped old new (Ok end) = (end ≡ stopped) × (blocks_of new ≡ blocks_of old)
-    × ((h : ℕ → ℕ) → weights_sent h new ≡ weights_sent h old)
+ComesBack stopped old new (Ok end) = (end ≡ stopped) × ((h : ℕ → ℕ) → weights_sent h new ≡ weights_sent h old)
 ComesBack stopped old new (Err read) = (p : Parcel) × (p.read ≡ read) × (old ≡ p ∷ []) × (new ≡ [])
 
 -- ---- the side that works
@@ -115,8 +109,7 @@ pub record HasWorked {T E : Type 0} (did : T → T → RoundRead → ℕ → Opt
     (counts counts' : Spares) (was is : T) (got : List Parcel) (end : Option E) : Type 0 where
   pub handled : MatchOption end ((got ≡ []) × (is ≡ was)) (λ e. Ends did stopped 0 was is (rounds_of got) e)
   pub ready : IsReadyAtEnd starts is
-  pub each : home list + given_by giver' ≡ blocks_of got + given_by giver
-  pub each_named : (h : ℕ → ℕ) → weighed h list.blocks + weights_given giver' h
+  pub each : (h : ℕ → ℕ) → weighed h list.blocks + weights_given giver' h
       ≡ weights_sent h got + weights_given giver h
   pub lends : Lends giver giver'
   pub none_left : IsLeft (last_blocks got) list giver giver'

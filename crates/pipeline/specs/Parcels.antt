@@ -1,6 +1,6 @@
--- What goes through the ring, how many blocks it holds, and what these weigh together, each by its name.
+-- What goes through the ring, and what its blocks weigh together, each by its name: by weights of 1 how many they are.
 use Rattle.std.specs.Prelude.{ℕ, ◌≡◌, ◌+◌, ◌-◌, ◌^◌, ◌≤◌, min, Option, List, [], ◌∷◌, ◌++◌, length}
-use Rattle.block_pool.specs.Giving.{GiverState, given_by, weights_given}
+use Rattle.block_pool.specs.Giving.{GiverState, weights_given}
 use Rattle.block_pool.specs.PoolState.{PoolState, home, weighed}
 use Rattle.rounds.specs.Benches.{IsRead, Lends, UnlessFull}
 use Rattle.rounds.specs.declared.round.RoundRead.{RoundRead}
@@ -31,14 +31,14 @@ pub record Fitting (n : ℕ) (before after : List Parcel) (list : PoolState) (p 
   pub fits : IsFit n before p
   pub room : home list + p.read.round.blocks ≤ list.made
 
--- the blocks of the rounds
-abbrev pub blocks_of : List Parcel → ℕ
-blocks_of [] = 0
-blocks_of (p ∷ xs) = p.read.round.blocks + blocks_of xs
-
+-- what the rounds weigh
 abbrev pub weights_sent : (ℕ → ℕ) → List Parcel → ℕ
 weights_sent h [] = 0
 weights_sent h (p ∷ xs) = weights_of p.read.round h + weights_sent h xs
+
+-- how many blocks these are
+abbrev pub blocks_sent : List Parcel → ℕ
+blocks_sent xs = weights_sent (λ _. 1) xs
 
 -- those of the last one
 abbrev pub last_blocks : List Parcel → ℕ
@@ -50,7 +50,6 @@ last_blocks (p ∷ q ∷ xs) = last_blocks (q ∷ xs)
 
 -- some blocks of a list went to others by a giver, or none
 pub record Returns (giver giver' : Option GiverState) (list list' : PoolState) : Type 0 where
-  pub sum : home list' + given_by giver' ≡ home list + given_by giver
   pub named : (h : ℕ → ℕ) → weighed h list'.blocks + weights_given giver' h
       ≡ weighed h list.blocks + weights_given giver h
   pub gave : Lends giver giver'

@@ -12,8 +12,8 @@ use Rattle.rounds.specs.RoundsState.{IntakeState}
 use Rattle.crossing.specs.declared.arrivals.Arrivals.{Arrivals}
 use Rattle.pipeline.specs.declared.parcel.Parcel.{Parcel}
 use Rattle.crossing.specs.declared.post.Post.{Ghosts}
-use Rattle.crossing.specs.Arriving.{brought_to, weights_to}
-use Rattle.pipeline.specs.Parcels.{blocks_of, rounds_of, weights_sent}
+use Rattle.crossing.specs.Arriving.{weights_to}
+use Rattle.pipeline.specs.Parcels.{rounds_of, weights_sent}
 
 -- behind the rounds that were sent before, these were read and sent
 pub record ReadOn (blocks budget : ℕ) (from to : Spot) (before after : List Parcel) : Type 0 where
@@ -43,7 +43,6 @@ pub record MayRead (blocks : ℕ) (intake : IntakeState) (place : Place) (sent :
 pub record HasRead {W : Type 0} {G : Ghosts W} (old new : IntakeState) (from to : Spot)
     (before after : List Parcel) (arrivals arrivals' : Arrivals W G) : Type 0 where
   pub read : ReadOn old.blocks old.budget from to before after
-  pub sum : new.home + blocks_of after + brought_to arrivals ≡ old.home + blocks_of before + brought_to arrivals'
   pub named : (h : ℕ → ℕ) → weighed h new.stock + weights_sent h after + weights_to arrivals h
       ≡ weighed h old.stock + weights_sent h before + weights_to arrivals' h
   pub paused : FewPauses arrivals.taker.pass.empties old.pauses arrivals'.taker.pass.empties new.pauses

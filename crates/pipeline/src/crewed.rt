@@ -1,5 +1,5 @@
 //! Handles a capture's rounds with all who run lanes beside it, until the run is over.
-ghost use Rattle.std.specs.Prelude.{◌≡◌, true, All};
+ghost use Rattle.std.specs.Prelude.{◌≡◌, length, true, All};
 ghost use Rattle.pcap_io.specs.declared.heads.Link.TheVariants.{Ethernet};
 ghost use Rattle.pcap_io.specs.Places.{IsReady};
 ghost use Rattle.pcap_io.specs.Readers.{place_of, SameLoan};
@@ -183,7 +183,7 @@ pub fn handle_beside<
 ) -> E
     requires ready { IsReady (place_of reader.old) }
     requires link { (place_of reader.old).link ≡ Ethernet }
-    requires home { rounds.old.home ≡ rounds.old.blocks }
+    requires home { length rounds.old.stock ≡ rounds.old.blocks }
     requires start { H.ready (options_of rounds.old) rounds.old.keep 0 into.old }
     ensures same_source { SameLoan reader.old reader.new }
     ensures handled { Handled (H.did handler.now (options_of rounds.old)) H.stopped

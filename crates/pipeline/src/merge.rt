@@ -1,5 +1,5 @@
 //! Merges a capture.
-ghost use Rattle.std.specs.Prelude.{◌≡◌};
+ghost use Rattle.std.specs.Prelude.{◌≡◌, length};
 ghost use Rattle.pcap_io.specs.declared.heads.Link.TheVariants.{Ethernet};
 ghost use Rattle.pcap_io.specs.Places.{IsReady};
 ghost use Rattle.pcap_io.specs.Readers.{place_of, source_of, SameLoan};
@@ -30,7 +30,7 @@ pub fn merge_beside<R: Threads + Wait + Sync, S: Source + Send, K: Sink, G: Gate
     requires ready { IsReady (place_of reader.old) }
     requires link { (place_of reader.old).link ≡ Ethernet }
     requires file { (place_of reader.old).file ≡ file.now }
-    requires home { rounds.old.home ≡ rounds.old.blocks }
+    requires home { length rounds.old.stock ≡ rounds.old.blocks }
     ensures same_source { SameLoan reader.old reader.new }
     ensures merged { Merged rounds.old rounds.new (place_of reader.old)
         (source_at S.left S.faults (source_of reader.old)) (source_at S.left S.faults (source_of reader.new))

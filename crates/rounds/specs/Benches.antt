@@ -26,7 +26,7 @@ pub record AreOne (intake : IntakeState) (bench : BenchState) : Type 0 where
   pub blocks : bench.blocks ≡ intake.blocks
   pub budget : bench.budget ≡ intake.budget
   pub few : (1 ≤ intake.budget) × (intake.budget ≤ 4096)
-  pub room : intake.blocks + intake.blocks ≤ bench.room + (intake.home + intake.home)
+  pub room : intake.blocks + intake.blocks ≤ bench.room + (length intake.stock + length intake.stock)
 
 -- there are places for what may be given back of all blocks, but n that came home since they were made
 abbrev pub HasRoom : ℕ → BenchState → Type 0

@@ -60,7 +60,7 @@ drawn_at at = record { left = at.left; faults = at.faults }
 
 -- all blocks are home, and nothing else is as it wasn't
 pub record Rests (old new : RoundsState) (from to : Spot) : Type 0 where
-  pub home : new.home ≡ new.blocks
+  pub home : length new.stock ≡ new.blocks
   pub same : (new.blocks ≡ old.blocks) × (options_of new ≡ options_of old) × (new.keep ≡ old.keep)
   pub least : old.taken ≤ new.taken
   pub pauses : FewPauses old.empties old.pauses new.empties new.pauses

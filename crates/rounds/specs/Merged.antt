@@ -1,5 +1,5 @@
 -- What merging says of the rounds that were read, one after another.
-use Rattle.std.specs.Prelude.{ℕ, ◌≡◌, ◌≤◌, Bool, true, false, Option, None, Some, IfSome, List, map}
+use Rattle.std.specs.Prelude.{ℕ, ◌≡◌, ◌≤◌, Bool, true, false, Option, None, Some, IfSome, List, length, map}
 use Rattle.block_pool.specs.PoolState.{weighed}
 use Rattle.off_io.specs.Content.{SaysFlushed}
 use Rattle.off_io.specs.Faults.{Rose}
@@ -87,7 +87,7 @@ pub record Merged (old new : RoundsState) (place : Place) (from to : Drawn) (bef
   pub prefix : PrefixUnless (Rose from.faults to.faults) (merging old.blocks (options_of old) place) from.left to.left
       before.held after.held
   pub flushed : flushes (ending_of end) ≡ true → SaysFlushed after.held after.flushed true
-  pub home : new.home ≡ new.blocks
+  pub home : length new.stock ≡ new.blocks
   pub named : (h : ℕ → ℕ) → weighed h new.stock ≡ weighed h old.stock
   pub same : (new.blocks ≡ old.blocks) × (options_of new ≡ options_of old) × (new.keep ≡ old.keep)
   pub taken : Told from.left to.left (TakesTo old.blocks old.budget place old.taken new.taken (ending_of end))

@@ -1,6 +1,5 @@
--- What a contract sees of rounds: which blocks are home, how many these are, how many were made and were taken, how
--- often a take found no list while a round was read beside work, how often such a round was paused, and of a round
--- what it holds.
+-- What a contract sees of rounds: which blocks are home, how many were made and were taken, how often a take found no
+-- list while a round was read beside work, how often such a round was paused, and of a round what it holds.
 use Rattle.std.specs.Prelude.{ℕ, Bool, List, Option}
 use Rattle.raw_block.specs.Views.{SoleState}
 use Rattle.pcap_io.specs.declared.heads.RecHead.{RecHead}
@@ -13,7 +12,6 @@ use Rattle.rounds.specs.declared.spares.Spares.{Spares}
 -- what became of spares while their rounds were worked, how many packets a round may have, how its work is divided, and
 -- whether a clone of each packet is kept
 pub record RoundsState : Type 0 where
-  pub home : ℕ
   pub stock : List SoleState
   pub blocks : ℕ
   pub taken : ℕ
@@ -26,7 +24,6 @@ pub record RoundsState : Type 0 where
 
 -- of the side that reads: its blocks, and how many packets a round may have
 pub record IntakeState : Type 0 where
-  pub home : ℕ
   pub stock : List SoleState
   pub blocks : ℕ
   pub taken : ℕ

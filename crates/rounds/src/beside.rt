@@ -29,13 +29,13 @@ impl Intake {
     fn bring_rest<R: Wait, H: Supply>(&mut self, rt: &R, blocks: u32, more: &mut H) -> bool
         requires few { blocks ≤ self.old.blocks }
         ensures came { Came (brought_by H.weights H.refusals more.old)
-            (brought_by H.weights H.refusals more.new) self.old.home self.new.home
+            (brought_by H.weights H.refusals more.new) (length self.old.stock) (length self.new.stock)
             (λ h. weighed h self.old.stock) (λ h. weighed h self.new.stock) }
         ensures same { (self.new.blocks ≡ self.old.blocks) × (self.new.taken ≡ self.old.taken)
             × (self.new.budget ≡ self.old.budget) × (self.new.empties ≡ self.old.empties) }
         ensures paused { self.new.pauses ≡ min (self.old.pauses + 1) (2 ^ 64 - 1) }
         ensures later { self.old.pauses ≤ self.new.pauses }
-        ensures all { result ≡ true → self.new.home + blocks ≡ self.old.blocks }
+        ensures all { result ≡ true → length self.new.stock + blocks ≡ self.old.blocks }
         ensures ended { result ≡ false → H.ended more.new ≡ true }
     {
         self.pauses = self.pauses.saturating_add(1);
@@ -75,8 +75,6 @@ impl Intake {
         ensures captured { AllByRecursion IsCaptured (map packet_of result.round.packets) }
         ensures numbers { NumberedFrom (place_of reader.old).number result.round.packets }
         ensures need { result.round.blocks ≡ round_need (map packet_of result.round.packets) }
-        ensures sum { self.new.home + result.round.blocks + H.weights more.old (λ _. 1)
-            ≡ self.old.home + H.weights more.new (λ _. 1) }
         ensures named { (h : ℕ → ℕ) → weighed h self.new.stock + weights_of result.round h + H.weights more.old h
             ≡ weighed h self.old.stock + H.weights more.new h }
         ensures within { result.round.blocks ≤ self.old.blocks }

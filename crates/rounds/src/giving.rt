@@ -1,7 +1,7 @@
 //! Blocks that go back to others: spares while their round is worked, and what lies on a list once it was written.
 ghost use Rattle.std.specs.Prelude.{◌≡◌, ℕ, ◌+◌};
-ghost use Rattle.block_pool.specs.Giving.{given_by, weights_given, LeavesNone, MayGive};
-ghost use Rattle.block_pool.specs.PoolState.{home, weighed};
+ghost use Rattle.block_pool.specs.Giving.{weights_given, LeavesNone, MayGive};
+ghost use Rattle.block_pool.specs.PoolState.{weighed};
 ghost use Rattle.rounds.specs.Benches.{IsLent, LeavesNoSpare, Lends, Swaps};
 
 use block_pool::{Giver, Pool};
@@ -19,7 +19,6 @@ pub(crate) fn swap_list(giver: &mut Option<Giver>, list: &mut Pool)
 /// The blocks of a list go to whoever takes lists, by one step, where somebody gives. They stay where the pool is full.
 pub fn give_list<R: Wait>(rt: &R, giver: &mut Option<Giver>, list: &mut Pool)
     requires lent { IsLent giver.old }
-    ensures sum { home list.new + given_by giver.new ≡ home list.old + given_by giver.old }
     ensures named { (h : ℕ → ℕ) → weighed h list.new.blocks + weights_given giver.new h
         ≡ weighed h list.old.blocks + weights_given giver.old h }
     ensures gave { Lends giver.old giver.new }

@@ -45,14 +45,12 @@ pub struct Intake {
 impl Model for Intake {
     ghost use Rattle.std.specs.Prelude.{◌≤◌};
     ghost use Rattle.std.specs.VecDeque.{deque_capacity};
-    ghost use Rattle.block_pool.specs.PoolState.{home as home_of};
     ghost use Rattle.rounds.specs.RoundOf.{IsHold};
     ghost use Rattle.rounds.specs.RoundsState.{IntakeState};
 
     ghost Value = { IntakeState };
 
     ghost view = { λ i. record {
-      home = home_of i.pool;
       stock = i.pool.blocks;
       blocks = i.pool.made;
       taken = i.pool.taken;
@@ -71,7 +69,6 @@ impl Intake {
         requires blocks { blocks ≤ 65536 }
         requires budget { (1 ≤ budget) × (budget ≤ 4096) }
         ensures made { IfOk result (λ intake. (intake ≡ record {
-          home = blocks;
           stock = intake.stock;
           blocks = blocks;
           taken = 0;
@@ -94,8 +91,7 @@ impl Intake {
 
     /// The blocks that are home.
     pub fn home(&self) -> u32
-        ensures home { result ≡ self.now.home }
-        ensures stock { result ≡ length self.now.stock }
+        ensures home { result ≡ length self.now.stock }
         ensures within { result ≤ self.now.blocks }
     {
         self.pool.home()
@@ -151,8 +147,9 @@ impl Intake {
 
     /// Blocks that were out come home on a list. None is taken.
     pub fn bring_in(&mut self, list: Pool)
-        requires room { self.old.home + home list ≤ self.old.blocks }
-        ensures home { self.new ≡ record self.old { home = self.old.home + home list; stock = self.new.stock } }
+        requires room { length self.old.stock + home list ≤ self.old.blocks }
+        ensures home { (self.new ≡ record self.old { stock = self.new.stock })
+            × (length self.new.stock ≡ length self.old.stock + home list) }
         ensures named { (h : ℕ → ℕ) → weighed h self.new.stock ≡ weighed h self.old.stock + weighed h list.blocks }
     {
         let mut list = list;
@@ -161,13 +158,12 @@ impl Intake {
 
     /// Blocks that were out come home before a round is read, for which none is needed yet. None is taken.
     pub fn bring_more<H: Supply>(&mut self, more: &mut H)
-        ensures sum { self.new.home + H.weights more.old (λ _. 1) ≡ self.old.home + H.weights more.new (λ _. 1) }
         ensures named { (h : ℕ → ℕ) → weighed h self.new.stock + H.weights more.old h
             ≡ weighed h self.old.stock + H.weights more.new h }
         ensures same { (self.new.blocks ≡ self.old.blocks) × (self.new.taken ≡ self.old.taken)
             × (self.new.budget ≡ self.old.budget) × (self.new.empties ≡ self.old.empties)
             × (self.new.pauses ≡ self.old.pauses) }
-        ensures looked { self.new.home ≡ self.old.home → self.old.home < self.old.blocks
+        ensures looked { length self.new.stock ≡ length self.old.stock → length self.old.stock < self.old.blocks
             → min (H.refusals more.old + 1) (2 ^ 64 - 1) ≤ H.refusals more.new }
         ensures asked { H.refusals more.old ≤ H.refusals more.new }
     {
@@ -196,7 +192,7 @@ impl Intake {
             → Stands start from (reached S.left S.faults reader.old) round.old.head round.old.round.packets
             → Fills self.old.blocks self.old.budget start from (reached S.left S.faults reader.new) round.new.head
             round.new.round.packets result }
-        ensures grows { Grows self.old.blocks self.old.budget self.old.taken self.new.taken self.new.home
+        ensures grows { Grows self.old.blocks self.old.budget self.old.taken self.new.taken (length self.new.stock)
             round.old.round.blocks round.new.round.packets round.new.round.blocks round.new.head
             (place_of reader.new) result }
         ensures refused { result ≡ Halt.Lacking
@@ -204,8 +200,9 @@ impl Intake {
         ensures captured { AllByRecursion IsCaptured (map packet_of round.new.round.packets) }
         ensures need { round.new.round.blocks ≡ round_need (map packet_of round.new.round.packets) }
         ensures came { Came (brought_by H.weights H.refusals more.old)
-            (brought_by H.weights H.refusals more.new) (self.old.home + round.old.round.blocks)
-            (self.new.home + round.new.round.blocks) (λ h. weighed h self.old.stock + weights_of round.old.round h)
+            (brought_by H.weights H.refusals more.new) (length self.old.stock + round.old.round.blocks)
+            (length self.new.stock + round.new.round.blocks)
+            (λ h. weighed h self.old.stock + weights_of round.old.round h)
             (λ h. weighed h self.new.stock + weights_of round.new.round h) }
         ensures same { (self.new.blocks ≡ self.old.blocks) × (self.new.budget ≡ self.old.budget)
             × (self.new.empties ≡ self.old.empties) × (self.new.pauses ≡ self.old.pauses) }

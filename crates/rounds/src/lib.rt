@@ -49,8 +49,9 @@
 //!   are home whatever the ending (`home`).
 //! - `taken` is the count of [`Intake`]'s own takes: `read` and what goes by it raise it, and no other call changes it
 //!   (`home`, `same`), also where blocks come home on a list (`bring_in`).
-//! - `sum`, `home` of [`Intake`], `brings` of [`Bench`]: where one side reads and the other works no block is lost
-//!   between them, and `given`, `puts` and `gives` say of a round on its way what `merge_all` says of it.
+//! - `named`, `home` of [`Intake`], `brings` of [`Bench`]: where one side reads and the other works no block is lost
+//!   between them, by names, and so by number (`weighs` of [`Round::blocks`]); and `given`, `puts` and `gives` say of a
+//!   round on its way what `merge_all` says of it.
 //! - `worked`, `brings` and `gave` where a giver is lent: what it gave and what comes home are together the round's
 //!   blocks, each counted once, and the giver comes back with an empty list and as many parts of its pass. By who gives
 //!   no spare stays with the round, unless a put found no place (`none_left`, `gives_spares`); what became of the

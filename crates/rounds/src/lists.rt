@@ -1,5 +1,5 @@
 //! The pool by which lists of blocks come home while the other blocks of their round are out.
-ghost use Rattle.std.specs.Prelude.{◌≡◌, ℕ, ◌+◌, ◌-◌, ◌≤◌, ◌^◌, [], min};
+ghost use Rattle.std.specs.Prelude.{◌≡◌, ℕ, ◌+◌, ◌-◌, ◌≤◌, ◌^◌, [], length, min};
 ghost use Rattle.std.specs.Arc.{arc_value};
 ghost use Rattle.block_pool.specs.Giving.{given_by, weights_given};
 ghost use Rattle.block_pool.specs.Listed.{blocks_in};
@@ -18,12 +18,13 @@ fn drain<R: Wait>(rt: &R, lists: &ListPool, pass: &mut ListPass, intake: &mut In
     requires own { IsOwn lists.now pass.old }
     requires all { pass.old.parts ≡ 65536 }
     requires made { pass.old.made ≡ [] }
-    requires room { intake.old.home + blocks_in pass.old.put ≤ intake.old.blocks + blocks_in pass.old.taken }
-    ensures same { intake.new ≡ record intake.old { home = intake.new.home; stock = intake.new.stock } }
-    ensures home { intake.new.home + blocks_in pass.old.taken ≡ intake.old.home + blocks_in pass.old.put }
+    requires room { length intake.old.stock + blocks_in pass.old.put ≤ intake.old.blocks + blocks_in pass.old.taken }
+    ensures same { intake.new ≡ record intake.old { stock = intake.new.stock } }
+    ensures home { length intake.new.stock + blocks_in pass.old.taken
+        ≡ length intake.old.stock + blocks_in pass.old.put }
     ensures named { (h : ℕ → ℕ) → weighed h intake.new.stock + weights_listed h pass.old.taken
         ≡ weighed h intake.old.stock + weights_listed h pass.old.put }
-    ensures rises { intake.old.home ≤ intake.new.home }
+    ensures rises { length intake.old.stock ≤ length intake.new.stock }
 {
     let mut waiting = lists.home(rt, pass);
     while waiting > 0 {
@@ -39,20 +40,16 @@ fn drain<R: Wait>(rt: &R, lists: &ListPool, pass: &mut ListPass, intake: &mut In
 /// often a take found none is told too, and answered how often a put found no place.
 pub fn bring_lists<R: Wait>(rt: &R, intake: &mut Intake, taker: Taker, giver: Option<Giver>) -> u64
     requires giver { HasGiver (arc_value taker.lists) giver }
-    requires room { intake.old.home + home taker.left + given_by giver
+    requires room { length intake.old.stock + home taker.left + given_by giver
         ≤ intake.old.blocks + blocks_in taker.pass.taken }
-    ensures same { intake.new ≡ record intake.old {
-      home = intake.new.home;
-      stock = intake.new.stock;
-      empties = intake.new.empties;
-    } }
+    ensures same { intake.new ≡ record intake.old { stock = intake.new.stock; empties = intake.new.empties } }
     ensures later { intake.old.empties ≤ intake.new.empties }
     ensures empties { intake.new.empties ≡ min (intake.old.empties + taker.pass.empties) (2 ^ 64 - 1) }
-    ensures home { intake.new.home + blocks_in taker.pass.taken
-        ≡ intake.old.home + home taker.left + given_by giver }
+    ensures home { length intake.new.stock + blocks_in taker.pass.taken
+        ≡ length intake.old.stock + home taker.left + given_by giver }
     ensures named { (h : ℕ → ℕ) → weighed h intake.new.stock + weights_listed h taker.pass.taken
         ≡ weighed h intake.old.stock + weighed h taker.left.blocks + weights_given giver h }
-    ensures rises { intake.old.home ≤ intake.new.home }
+    ensures rises { length intake.old.stock ≤ length intake.new.stock }
     ensures fulls { result ≡ fulls_by giver }
 {
     let Some(giver) = giver else { unreachable!() };

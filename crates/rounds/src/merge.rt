@@ -249,14 +249,15 @@ impl Rounds {
         sink: &mut K,
         number: u64,
     ) -> Step
-        requires out { self.old.home + read.round.blocks ≤ self.old.blocks }
+        requires out { length self.old.stock + read.round.blocks ≤ self.old.blocks }
         ensures puts { is_worked read.end ≡ true → Puts (K.held sink.old) (K.held sink.new)
             (round_output (options_of self.old) file.now.order (map packet_of read.round.packets)) read.end result }
         ensures gives { is_worked read.end ≡ false → (end : MergeEnd) × (result ≡ Step.Ends end)
             × GivesUp (K.held sink.old) (K.held sink.new) number read.end end }
         ensures flushed { IfEnds result (λ end. flushes (ending_of end) ≡ true
             → SaysFlushed (K.held sink.new) (K.is_flushed sink.new) true) }
-        ensures home { self.new ≡ record self.old { home = self.old.home + read.round.blocks; stock = self.new.stock } }
+        ensures home { (self.new ≡ record self.old { stock = self.new.stock })
+            × (length self.new.stock ≡ length self.old.stock + read.round.blocks) }
         ensures named { (h : ℕ → ℕ) → weighed h self.new.stock ≡ weighed h self.old.stock + weights_of read.round h }
         ensures later { K.faults sink.old ≤ K.faults sink.new }
         ensures rose { IfEnds result (λ end. end ≡ MergeEnd.WriteFault → Rose (K.faults sink.old) (K.faults sink.new)) }
@@ -284,7 +285,7 @@ impl Rounds {
         requires ready { IsReady (place_of reader.old) }
         requires link { (place_of reader.old).link ≡ Ethernet }
         requires file { (place_of reader.old).file ≡ file.now }
-        requires home { self.old.home ≡ self.old.blocks }
+        requires home { length self.old.stock ≡ self.old.blocks }
         ensures same_source { SameLoan reader.old reader.new }
         ensures merged { Merged self.old self.new (place_of reader.old)
             (source_at S.left S.faults (source_of reader.old)) (source_at S.left S.faults (source_of reader.new))

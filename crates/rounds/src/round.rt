@@ -46,9 +46,10 @@ impl Model for Round {
 }
 
 impl Round {
-    /// The blocks that it has.
+    /// The blocks that it has: by weights of 1 they weigh as much.
     pub fn blocks(&self) -> u32
         ensures blocks { result ≡ self.now.blocks }
+        ensures weighs { weights_of self.now (λ _. 1) ≡ self.now.blocks }
     {
         self.blocks
     }

@@ -54,7 +54,6 @@ impl Model for Rounds {
     ghost Value = { RoundsState };
 
     ghost view = { λ r. record {
-      home = r.intake.home;
       stock = r.intake.stock;
       blocks = r.intake.blocks;
       taken = r.intake.taken;
@@ -85,7 +84,6 @@ impl Rounds {
         requires budget { (1 ≤ budget) × (budget ≤ 4096) }
         requires plan { IsPlan plan }
         ensures made { IfOk result (λ rounds. rounds ≡ record {
-          home = blocks;
           stock = rounds.stock;
           blocks = blocks;
           taken = 0;
@@ -109,8 +107,7 @@ impl Rounds {
 
     /// The blocks that are home.
     pub fn home(&self) -> u32
-        ensures home { result ≡ self.now.home }
-        ensures stock { result ≡ length self.now.stock }
+        ensures home { result ≡ length self.now.stock }
         ensures within { result ≤ self.now.blocks }
     {
         self.intake.home()
@@ -169,7 +166,7 @@ impl Rounds {
     pub fn read_round<S: Source>(&mut self, reader: &mut CaptureReader<'_, S>) -> RoundRead
         requires ready { IsReady (place_of reader.old) }
         requires link { (place_of reader.old).link ≡ Ethernet }
-        requires home { self.old.home ≡ self.old.blocks }
+        requires home { length self.old.stock ≡ self.old.blocks }
         ensures same_source { SameLoan reader.old reader.new }
         ensures given { Told (S.left (source_of reader.old)) (S.left (source_of reader.new))
             (GivesRound self.old.blocks (place_of reader.old) (place_of reader.new) result.round.packets result.end) }
@@ -181,7 +178,7 @@ impl Rounds {
         ensures captured { AllByRecursion IsCaptured (map packet_of result.round.packets) }
         ensures numbers { NumberedFrom (place_of reader.old).number result.round.packets }
         ensures need { result.round.blocks ≡ round_need (map packet_of result.round.packets) }
-        ensures home { self.new.home + result.round.blocks ≡ self.old.blocks }
+        ensures home { length self.new.stock + result.round.blocks ≡ self.old.blocks }
         ensures named { (h : ℕ → ℕ) → weighed h self.new.stock + weights_of result.round h ≡ weighed h self.old.stock }
         ensures same { (self.new.blocks ≡ self.old.blocks) × (options_of self.new ≡ options_of self.old)
             × (self.new.keep ≡ self.old.keep) }
@@ -214,7 +211,7 @@ impl Rounds {
         works: &mut W,
         round: Round,
     ) -> Result<Worked, AllocError>
-        requires out { self.old.home + round.blocks ≤ self.old.blocks }
+        requires out { length self.old.stock + round.blocks ≤ self.old.blocks }
         ensures records { IfOk result (λ worked. worked_records worked
             ≡ round_records (options_of self.old) (map packet_of round.packets)) }
         ensures checked { self.old.keep ≡ true → IfOk result
@@ -223,8 +220,8 @@ impl Rounds {
         ensures worked { IfOk result (λ worked. worked.blocks ≡ round.blocks) }
         ensures same { OnOk result (self.new ≡ self.old) }
         ensures out { IfOk result (λ worked. (h : ℕ → ℕ) → weights_worked worked h ≡ weights_of round h) }
-        ensures home { OnErr result (self.new
-            ≡ record self.old { home = self.old.home + round.blocks; stock = self.new.stock }) }
+        ensures home { OnErr result ((self.new ≡ record self.old { stock = self.new.stock })
+            × (length self.new.stock ≡ length self.old.stock + round.blocks)) }
         ensures named { OnErr result ((h : ℕ → ℕ) → weighed h self.new.stock
             ≡ weighed h self.old.stock + weights_of round h) }
     {
@@ -254,8 +251,9 @@ impl Rounds {
 
     /// Gives a round up. Its blocks go home, all of them.
     pub fn drop_round(&mut self, round: Round)
-        requires out { self.old.home + round.blocks ≤ self.old.blocks }
-        ensures home { self.new ≡ record self.old { home = self.old.home + round.blocks; stock = self.new.stock } }
+        requires out { length self.old.stock + round.blocks ≤ self.old.blocks }
+        ensures home { (self.new ≡ record self.old { stock = self.new.stock })
+            × (length self.new.stock ≡ length self.old.stock + round.blocks) }
         ensures named { (h : ℕ → ℕ) → weighed h self.new.stock ≡ weighed h self.old.stock + weights_of round h }
     {
         let intake = &mut self.intake;
@@ -265,8 +263,9 @@ impl Rounds {
 
     /// What is left of a round that memory was refused for goes home, all of its blocks.
     pub fn bring_rest(&mut self, rest: Rest)
-        requires out { self.old.home + rest.blocks ≤ self.old.blocks }
-        ensures home { self.new ≡ record self.old { home = self.old.home + rest.blocks; stock = self.new.stock } }
+        requires out { length self.old.stock + rest.blocks ≤ self.old.blocks }
+        ensures home { (self.new ≡ record self.old { stock = self.new.stock })
+            × (length self.new.stock ≡ length self.old.stock + rest.blocks) }
         ensures named { (h : ℕ → ℕ) → weighed h self.new.stock ≡ weighed h self.old.stock + weights_left rest h }
     {
         let intake = &mut self.intake;
@@ -276,8 +275,9 @@ impl Rounds {
 
     /// Ends a round that was worked. Its blocks go home, all of them.
     pub fn end_round(&mut self, worked: Worked)
-        requires out { self.old.home + worked.blocks ≤ self.old.blocks }
-        ensures home { self.new ≡ record self.old { home = self.old.home + worked.blocks; stock = self.new.stock } }
+        requires out { length self.old.stock + worked.blocks ≤ self.old.blocks }
+        ensures home { (self.new ≡ record self.old { stock = self.new.stock })
+            × (length self.new.stock ≡ length self.old.stock + worked.blocks) }
         ensures named { (h : ℕ → ℕ) → weighed h self.new.stock ≡ weighed h self.old.stock + weights_worked worked h }
     {
         let intake = &mut self.intake;
@@ -294,14 +294,15 @@ impl Rounds {
         number: u64,
         into: &mut T,
     ) -> Option<E>
-        requires out { self.old.home + read.round.blocks ≤ self.old.blocks }
+        requires out { length self.old.stock + read.round.blocks ≤ self.old.blocks }
         requires read { IsRead read.round }
         requires ready { (n : ℕ) × (n ≤ 2 ^ 32) × H.ready (options_of self.old) self.old.keep n into.old }
         ensures did { H.did handler.now (options_of self.old) into.old into.new read number result }
         ensures full { result ≡ None → read.end ≡ RoundEnd.Full }
         ensures ready { (n : ℕ) → H.ready (options_of self.old) self.old.keep n into.old
             → H.ready (options_of self.old) self.old.keep (n + length read.round.packets) into.new }
-        ensures home { self.new ≡ record self.old { home = self.old.home + read.round.blocks; stock = self.new.stock } }
+        ensures home { (self.new ≡ record self.old { stock = self.new.stock })
+            × (length self.new.stock ≡ length self.old.stock + read.round.blocks) }
         ensures named { (h : ℕ → ℕ) → weighed h self.new.stock ≡ weighed h self.old.stock + weights_of read.round h }
     {
         let intake = &mut self.intake;

@@ -1,5 +1,5 @@
 //! Handles rounds one after another, in the thread that reads them.
-ghost use Rattle.std.specs.Prelude.{◌≡◌, ℕ, ◌≤◌};
+ghost use Rattle.std.specs.Prelude.{◌≡◌, ℕ, ◌≤◌, length};
 ghost use Rattle.block_pool.specs.PoolState.{weighed};
 ghost use Rattle.pcap_io.specs.declared.heads.Link.TheVariants.{Ethernet};
 ghost use Rattle.pcap_io.specs.Places.{IsReady};
@@ -25,7 +25,7 @@ fn handle_next<W: Works, S: Source, T, E, H: RoundHandler<T, E>>(
 ) -> Option<E>
     requires ready { IsReady (place_of reader.old) }
     requires link { (place_of reader.old).link ≡ Ethernet }
-    requires home { rounds.old.home ≡ rounds.old.blocks }
+    requires home { length rounds.old.stock ≡ rounds.old.blocks }
     requires start { IsReadyAt (H.ready (options_of rounds.old) rounds.old.keep) (place_of reader.old).number into.old }
     ensures same_source { SameLoan reader.old reader.new }
     ensures stepped { Stepped (H.did handler.now (options_of rounds.old))
@@ -51,7 +51,7 @@ pub fn handle_from<W: Works, S: Source, T, E, H: RoundHandler<T, E>>(
 ) -> E
     requires ready { IsReady (place_of reader.old) }
     requires link { (place_of reader.old).link ≡ Ethernet }
-    requires home { rounds.old.home ≡ rounds.old.blocks }
+    requires home { length rounds.old.stock ≡ rounds.old.blocks }
     requires counted { number ≤ (place_of reader.old).number }
     requires start { IsReadyAt (H.ready (options_of rounds.old) rounds.old.keep) (place_of reader.old).number into.old }
     ensures same_source { SameLoan reader.old reader.new }

@@ -1,5 +1,5 @@
 //! Rounds that are driven one by one, each next one read beside the work.
-ghost use Rattle.std.specs.Prelude.{◌≡◌, ◌+◌};
+ghost use Rattle.std.specs.Prelude.{◌≡◌, ◌+◌, length};
 ghost use Rattle.pcap_io.specs.declared.heads.Link.TheVariants.{Ethernet};
 ghost use Rattle.pcap_io.specs.Places.{IsReady};
 ghost use Rattle.pcap_io.specs.Readers.{place_of};
@@ -31,10 +31,10 @@ fn turn<R: Threads + Wait + Abort + Sync, W: Works, S: Source + Send>(
 ) -> RoundRead
     requires ready { read.end ≡ RoundEnd.Full → IsReady (place_of reader.old)
         × ((place_of reader.old).link ≡ Ethernet) }
-    requires out { rounds.old.home + read.round.blocks ≡ rounds.old.blocks }
+    requires out { length rounds.old.stock + read.round.blocks ≡ rounds.old.blocks }
     ensures ready { result.end ≡ RoundEnd.Full → IsReady (place_of reader.new)
         × ((place_of reader.new).link ≡ Ethernet) }
-    ensures out { rounds.new.home + result.round.blocks ≡ rounds.new.blocks }
+    ensures out { length rounds.new.stock + result.round.blocks ≡ rounds.new.blocks }
 {
     let RoundRead { round, end } = read;
     match end {
@@ -71,10 +71,10 @@ fn two_turns<R: Threads + Wait + Abort + Sync, W: Works, S: Source + Send>(
 ) -> RoundRead
     requires ready { read.end ≡ RoundEnd.Full → IsReady (place_of reader.old)
         × ((place_of reader.old).link ≡ Ethernet) }
-    requires out { rounds.old.home + read.round.blocks ≡ rounds.old.blocks }
+    requires out { length rounds.old.stock + read.round.blocks ≡ rounds.old.blocks }
     ensures ready { result.end ≡ RoundEnd.Full → IsReady (place_of reader.new)
         × ((place_of reader.new).link ≡ Ethernet) }
-    ensures out { rounds.new.home + result.round.blocks ≡ rounds.new.blocks }
+    ensures out { length rounds.new.stock + result.round.blocks ≡ rounds.new.blocks }
 {
     let next = turn(rt, works, rounds, read, reader, file, sink, pauses);
     turn(rt, works, rounds, next, reader, file, sink, pauses)

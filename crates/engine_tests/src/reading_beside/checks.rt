@@ -1,6 +1,6 @@
 //! Captures are checked, round by round, over enough blocks and too few, and where a source fails. The expected lines
 //! were worked out by hand.
-ghost use Rattle.std.specs.Prelude.{◌≡◌, ◌≤◌, [], true, IfOk};
+ghost use Rattle.std.specs.Prelude.{◌≡◌, ◌≤◌, [], true, IfOk, length};
 ghost use Rattle.rounds.specs.Merging.{options_of};
 ghost use Rattle.check_totals.specs.Counts.{totals_of};
 
@@ -8,9 +8,8 @@ use crate::plans::plain;
 use crate::reading_beside::driven::{PAST_THE_FIRST, Passing, READER};
 use crate::reading_beside::memory::{How, capture, reads_beside, sink_of, source_of};
 use check_totals::{Totals, write_totals};
-use checking::{CheckEnd, check_all};
+use checking::CheckEnd;
 use checking_beside::check_beside;
-use lanes::Alone;
 use off_io::{Feed, Gate, Meeting, NoGate, Source, Who};
 use pcap_io::{CaptureReader, Link};
 use rounds::Rounds;
@@ -35,7 +34,7 @@ fn begun(alloc: Global, how: How) -> Result<(Rounds, Totals), AllocError>
     requires budget { (1 ≤ how.budget) × (how.budget ≤ 4096) }
     requires queues { (1 ≤ how.queues) × (how.queues ≤ 64) }
     requires taps { how.taps ≤ 8 }
-    ensures home { IfOk result (λ both. both.0.home ≡ both.0.blocks) }
+    ensures home { IfOk result (λ both. length both.0.stock ≡ both.0.blocks) }
     ensures keep { IfOk result (λ both. both.0.keep ≡ true) }
     ensures start { IfOk result (λ both. both.1 ≡ totals_of (options_of both.0) []) }
 {
@@ -45,14 +44,13 @@ fn begun(alloc: Global, how: How) -> Result<(Rounds, Totals), AllocError>
     Ok((rounds, totals))
 }
 
-// Checks what a source gives, by two sides or in one thread.
+// Checks what a source gives.
 pub(crate) fn checked<S: Source + Send + Drop, G: Gate + Sync>(
     rt: &(impl Threads + Wait + Abort + Sync),
     alloc: Global,
     how: How,
     source: S,
     gate: &G,
-    beside: bool,
 ) -> Checked {
     assert!(rt; how.blocks >= 1 && how.blocks <= 65536 && how.budget >= 1 && how.budget <= 4096);
     assert!(rt; how.queues >= 1 && how.queues <= 64 && how.taps <= 8);
@@ -61,11 +59,7 @@ pub(crate) fn checked<S: Source + Send + Drop, G: Gate + Sync>(
         panic!(rt; "the file header is lawful");
     };
     let (mut rounds, mut totals) = begun(alloc, how).expect(rt, "no memory");
-    let end = if beside {
-        check_beside(rt, alloc, &mut rounds, &mut reader, &mut totals, gate)
-    } else {
-        check_all(&mut Alone { gate }, &mut rounds, &mut reader, &mut totals)
-    };
+    let end = check_beside(rt, alloc, &mut rounds, &mut reader, &mut totals, gate);
     let mut sink = sink_of(rt, alloc, 4096, &[]);
     assert!(rt; write_totals(&mut sink, &totals).is_ok());
     let lines = sink.bytes().to_vec(alloc).expect(rt, "no memory");
@@ -88,7 +82,7 @@ fn check(
         taps: 2,
     };
     let source = source_of(rt, alloc, input, fails);
-    let (end, lines, home, _) = checked(rt, alloc, how, source, &NoGate, false);
+    let (end, lines, home, _) = checked(rt, alloc, how, source, &NoGate);
     (end, lines, home)
 }
 
@@ -162,7 +156,7 @@ fn checking_reads_beside_the_work(rt: HostRuntime) {
         queues: 1,
         taps: 0,
     };
-    let (end, lines, home, _) = checked(&rt, alloc, how, source, &gate, true);
+    let (end, lines, home, _) = checked(&rt, alloc, how, source, &gate);
     let want = "queue 0: records 4 items 4 merged 0 returned 4\n\
         total: records 4 items 4 merged 0 returned 4\n";
     assert_eq!(rt;

@@ -3,7 +3,7 @@ use crate::plans::plain;
 use crate::reading_beside::compared::{clone_of, packet, spend_all};
 use ahead::{ReadAhead, work_and_read};
 use check_totals::{Totals, write_totals};
-use checking::{CheckEnd, check_all};
+use checking::{CheckEnd, check_round};
 use checking_beside::check_beside;
 use comparing::{KeptFlows, check_items};
 use frame_runs::Engine;
@@ -70,7 +70,6 @@ fn example_of_pipeline(rt: HostRuntime) -> Result<(), Fail> {
 #[test]
 fn example_of_checking(rt: HostRuntime) -> Result<(), Fail> {
     let alloc = rt.alloc();
-    let (queues, taps) = (2, 2);
     let mut feed = Feed {
         inner: MemSource::new(TWO_FLOWS.to_vec(alloc)?, 4096, Vec::new(alloc)),
     };
@@ -78,15 +77,20 @@ fn example_of_checking(rt: HostRuntime) -> Result<(), Fail> {
     let mut rounds = Rounds::make(alloc, 12, 4, plain(2, 2, 64), true)?;
     let mut sink = MemSink::new(alloc, 4096, Vec::new(alloc));
     let mut works = Alone { gate: &NoGate };
-    let mut totals = Totals::make(alloc, queues, taps)?;
-    let end = check_all(&mut works, &mut rounds, &mut reader, &mut totals);
-    write_totals(&mut sink, &totals)?;
+    let RoundRead { round, end } = rounds.read_round(&mut reader);
+    let worked = rounds.work_round(&mut works, round)?;
+    let totals = check_round(&rounds, &worked);
+    rounds.end_round(worked);
+    write_totals(&mut sink, &totals?)?;
     let want = "queue 0: records 2 items 1 merged 1 returned 2\n\
         queue 1: records 2 items 1 merged 1 returned 2\n\
         tap 0: windows 4 bytes 256\n\
         tap 1: windows 4 bytes 24\n\
         total: records 4 items 2 merged 2 returned 4\n";
-    assert_eq!(rt; (end, sink.bytes()), (CheckEnd::Done, want.as_bytes()));
+    assert_eq!(rt;
+        (end, rounds.home(), sink.bytes()),
+        (RoundEnd::Full, 12, want.as_bytes())
+    );
     Ok(())
 }
 

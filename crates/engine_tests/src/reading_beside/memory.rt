@@ -1,5 +1,5 @@
 //! What a test begins with: captures, sources, sinks and rounds. Where there is no memory the test ends.
-ghost use Rattle.std.specs.Prelude.{◌≡◌};
+ghost use Rattle.std.specs.Prelude.{◌≡◌, length};
 
 use crate::byte_lists::joined;
 use crate::plans::plain;
@@ -63,7 +63,7 @@ pub(crate) struct How {
 
 /// Rounds that merge so, with all blocks home. Taps are shown so many bytes.
 pub(crate) fn rounds_of(rt: &impl Abort, alloc: Global, how: How, snap: u32) -> Rounds
-    ensures home { result.home ≡ result.blocks }
+    ensures home { length result.stock ≡ result.blocks }
 {
     let (blocks, budget) = (how.blocks, how.budget);
     assert!(rt; blocks >= 1 && blocks <= 65536 && budget >= 1 && budget <= 4096);

@@ -110,7 +110,7 @@ fn pauses_and_ends_so(
 
 fn checked_over(rt: &(impl Threads + Wait + Abort + Sync), alloc: Global, how: How) -> Checked {
     let source = four_packets(rt, alloc, &[]);
-    checked(rt, alloc, how, source, &Held, true)
+    checked(rt, alloc, how, source, &Held)
 }
 
 // The same of checking, which ends well, with all blocks home.

@@ -1,6 +1,6 @@
 //! Rounds that are driven one by one, each next one read beside the work, where memory may be refused: whatever call
 //! was refused, a prefix is written of what is written with ample memory, and all blocks are home.
-ghost use Rattle.std.specs.Prelude.{◌≡◌, ◌+◌, ◌≤◌, IfNone, IfSome};
+ghost use Rattle.std.specs.Prelude.{◌≡◌, ◌+◌, IfNone, IfSome, length};
 ghost use Rattle.pcap_io.specs.declared.heads.Link.TheVariants.{Ethernet};
 ghost use Rattle.pcap_io.specs.Places.{IsReady};
 ghost use Rattle.pcap_io.specs.Readers.{place_of};
@@ -37,7 +37,7 @@ fn source(rt: &impl Abort, alloc: Global) -> SureSource {
 }
 
 fn two_queues(rt: &impl Abort, alloc: Global) -> Rounds
-    ensures home { result.home ≡ result.blocks }
+    ensures home { length result.stock ≡ result.blocks }
 {
     match Rounds::make(alloc, BLOCKS, BUDGET, plain(2, 0, 1), false) {
         Ok(rounds) => rounds,
@@ -57,11 +57,11 @@ fn turn<R: Threads + Wait + Sync, S: Source + Send>(
 ) -> Option<RoundRead>
     requires ready { read.end ≡ RoundEnd.Full → IsReady (place_of reader.old)
         × ((place_of reader.old).link ≡ Ethernet) }
-    requires out { rounds.old.home + read.round.blocks ≡ rounds.old.blocks }
+    requires out { length rounds.old.stock + read.round.blocks ≡ rounds.old.blocks }
     ensures ready { IfSome result (λ next. next.end ≡ RoundEnd.Full
         → IsReady (place_of reader.new) × ((place_of reader.new).link ≡ Ethernet)) }
-    ensures out { IfSome result (λ next. rounds.new.home + next.round.blocks ≡ rounds.new.blocks) }
-    ensures home { IfNone result (rounds.new.home ≡ rounds.new.blocks) }
+    ensures out { IfSome result (λ next. length rounds.new.stock + next.round.blocks ≡ rounds.new.blocks) }
+    ensures home { IfNone result (length rounds.new.stock ≡ rounds.new.blocks) }
 {
     let RoundRead { round, end } = read;
     if end != RoundEnd::Full {

@@ -71,7 +71,7 @@ pub(crate) fn merge(
     feed: &mut Feed<MemSource>,
     sink: &mut MemSink,
 ) -> MergeEnd
-    requires home { rounds.old.home ≡ rounds.old.blocks }
+    requires home { length rounds.old.stock ≡ rounds.old.blocks }
 {
     let mut reader = reader_of(rt, feed, Link::Ethernet);
     let file = reader.file();

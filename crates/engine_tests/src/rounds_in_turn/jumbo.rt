@@ -1,7 +1,7 @@
 //! Rounds of records that fill several blocks each, over one queue and three, with taps and without, and with clones
 //! that are kept: what is written, and that all blocks are home after each round. Headers, sizes and hashes were
 //! computed by a separate program.
-ghost use Rattle.std.specs.Prelude.{◌≡◌, ◌≤◌, IfOk};
+ghost use Rattle.std.specs.Prelude.{◌≡◌, ◌≤◌, IfOk, length};
 
 use crate::byte_lists::hash;
 use crate::plans::plain;
@@ -116,8 +116,8 @@ const ALL_BESIDE_ONE: Row = Row {
 // The capture is a round: the blocks that are home while it is out, and what is written of it. None where memory was
 // refused or a record is.
 fn turn(alloc: Global, rounds: &mut Rounds, capture: &[u8]) -> Option<(u32, MemSink)>
-    requires home { rounds.old.home ≡ rounds.old.blocks }
-    ensures home { rounds.new.home ≡ rounds.new.blocks }
+    requires home { length rounds.old.stock ≡ rounds.old.blocks }
+    ensures home { length rounds.new.stock ≡ rounds.new.blocks }
 {
     let Ok(bytes) = capture.to_vec(alloc) else {
         return None;
@@ -147,7 +147,7 @@ fn turn(alloc: Global, rounds: &mut Rounds, capture: &[u8]) -> Option<(u32, MemS
 fn rounds_of(alloc: Global, row: Row) -> Result<Rounds, AllocError>
     requires queues { (1 ≤ row.queues) × (row.queues ≤ 64) }
     requires taps { row.taps ≤ 8 }
-    ensures home { IfOk result (λ rounds. rounds.home ≡ rounds.blocks) }
+    ensures home { IfOk result (λ rounds. length rounds.stock ≡ rounds.blocks) }
 {
     let plan = plain(row.queues, row.taps, 64);
     Rounds::make(alloc, BLOCKS, 6, plan, row.keep)

@@ -1,6 +1,6 @@
 //! Rounds that are worked over queues and taps, with threads and without. The expected bytes were computed by a
 //! separate program.
-ghost use Rattle.std.specs.Prelude.{◌≡◌, ◌+◌, ◌≤◌};
+ghost use Rattle.std.specs.Prelude.{◌≡◌, ◌+◌, ◌≤◌, length};
 ghost use Rattle.lanes.specs.Work.{IsPlan};
 
 use crate::byte_lists::hash;
@@ -27,7 +27,7 @@ fn merge_by_threads<R: Threads + Wait + Abort + Sync>(
     feed: &mut Feed<MemSource>,
     sink: &mut MemSink,
 ) -> MergeEnd
-    requires home { rounds.old.home ≡ rounds.old.blocks }
+    requires home { length rounds.old.stock ≡ rounds.old.blocks }
 {
     let mut reader = reader_of(rt, feed, Link::Ethernet);
     let file = reader.file();
@@ -120,15 +120,15 @@ fn runs_and_windows_by_choice(rt: HostRuntime) {
 // Rounds of two over six blocks.
 fn rounds_by(rt: &impl Abort, alloc: Global, plan: LanePlan) -> Rounds
     requires plan { IsPlan plan }
-    ensures home { (result.home ≡ 6) × (result.blocks ≡ 6) }
+    ensures home { (length result.stock ≡ 6) × (result.blocks ≡ 6) }
 {
     Rounds::make(alloc, 6, 2, plan, false).expect(rt, "no memory")
 }
 
 // The two records of a capture, read and worked.
 fn worked_in(rt: &impl Abort, alloc: Global, rounds: &mut Rounds) -> Worked
-    requires home { rounds.old.home ≡ rounds.old.blocks }
-    ensures out { rounds.new.home + result.blocks ≡ rounds.old.blocks }
+    requires home { length rounds.old.stock ≡ rounds.old.blocks }
+    ensures out { length rounds.new.stock + result.blocks ≡ rounds.old.blocks }
     ensures blocks { rounds.new.blocks ≡ rounds.old.blocks }
 {
     let mut feed = feed_of(rt, alloc, &TWO_RECORDS, 24, &[]);
@@ -140,7 +140,7 @@ fn worked_in(rt: &impl Abort, alloc: Global, rounds: &mut Rounds) -> Worked
 
 // What is written of them.
 fn written_in(rt: &impl Abort, alloc: Global, rounds: &mut Rounds) -> Vec<u8>
-    requires home { rounds.old.home ≡ rounds.old.blocks }
+    requires home { length rounds.old.stock ≡ rounds.old.blocks }
 {
     let mut sink = MemSink::new(alloc, 64, Vec::new(alloc));
     let worked = worked_in(rt, alloc, rounds);

@@ -1,5 +1,5 @@
 //! Rounds are read, dropped, ended and merged, and all blocks are home again.
-ghost use Rattle.std.specs.Prelude.{◌≡◌, ◌≤◌};
+ghost use Rattle.std.specs.Prelude.{◌≡◌, ◌≤◌, length};
 
 use crate::plans::plain;
 use crate::rounds_in_turn::captures::{feed_of, merge, reader_of, written};
@@ -14,7 +14,7 @@ use worked_captures::{TWO_RECORDS, WRITTEN};
 // Rounds of two over so many blocks.
 fn rounds_over(rt: &impl Abort, alloc: Global, blocks: u32) -> Rounds
     requires blocks { (1 ≤ blocks) × (blocks ≤ 65536) }
-    ensures home { result.home ≡ result.blocks }
+    ensures home { length result.stock ≡ result.blocks }
 {
     Rounds::make(alloc, blocks, 2, plain(1, 0, 64), false).expect(rt, "no memory")
 }

@@ -1,5 +1,5 @@
 //! One side reads and the other works, in turn, over as few blocks as a round needs.
-ghost use Rattle.std.specs.Prelude.{◌≡◌, ℕ, ◌+◌, ◌-◌, ◌≤◌, List, []};
+ghost use Rattle.std.specs.Prelude.{◌≡◌, ℕ, ◌+◌, ◌-◌, ◌≤◌, List, [], length};
 ghost use Rattle.raw_block.specs.Views.{SoleState};
 ghost use Rattle.block_pool.specs.PoolState.{home, weighed};
 ghost use Rattle.pcap_io.specs.declared.heads.Link.TheVariants.{Ethernet};
@@ -114,7 +114,7 @@ pub(crate) fn full(rt: &impl Abort, read: RoundRead) -> RoundRead
 /// Rounds of one over so many blocks.
 pub(crate) fn rounds_of_one(rt: &impl Abort, alloc: Global, blocks: u32) -> Rounds
     requires blocks { (1 ≤ blocks) × (blocks ≤ 65536) }
-    ensures blocks { (result.home ≡ blocks) × (result.blocks ≡ blocks) }
+    ensures blocks { (length result.stock ≡ blocks) × (result.blocks ≡ blocks) }
 {
     Rounds::make(alloc, blocks, 1, plain(1, 0, 64), false).expect(rt, "no memory")
 }
@@ -142,7 +142,8 @@ fn read_beside<N: Stocked, R: Wait, S: Source>(
     ensures same_source { SameLoan reader.old reader.new }
     ensures full { result.0.end ≡ RoundEnd.Full → PassesRound (place_of reader.old)
         (place_of reader.new) result.0.round.packets intake.old.budget }
-    ensures sum { intake.new.home + result.0.round.blocks + home result.1 ≡ intake.old.home + home pool }
+    ensures sum { length intake.new.stock + result.0.round.blocks + home result.1
+        ≡ length intake.old.stock + home pool }
     ensures within { result.0.round.blocks ≤ intake.old.blocks }
     ensures same { intake.new.blocks ≡ intake.old.blocks }
 {
@@ -152,6 +153,7 @@ fn read_beside<N: Stocked, R: Wait, S: Source>(
         of: PhantomData,
     };
     let read = intake.read_beside(rt, reader, &mut shelf);
+    let _ = read.round.blocks();
     let Shelf {
         pool,
         refused: _,
@@ -172,7 +174,8 @@ fn read_shelved<R: Wait, S: Source>(
     ensures same_source { SameLoan reader.old reader.new }
     ensures full { result.0.end ≡ RoundEnd.Full → PassesRound (place_of reader.old)
         (place_of reader.new) result.0.round.packets intake.old.budget }
-    ensures sum { intake.new.home + result.0.round.blocks + home result.1 ≡ intake.old.home + home pool }
+    ensures sum { length intake.new.stock + result.0.round.blocks + home result.1
+        ≡ length intake.old.stock + home pool }
     ensures within { result.0.round.blocks ≤ intake.old.blocks }
     ensures same { intake.new.blocks ≡ intake.old.blocks }
 {

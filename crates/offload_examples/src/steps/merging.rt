@@ -1,7 +1,7 @@
 //! Merging the packets of a round that lie in blocks: each is judged and received, and the round finished, without
 //! reading and writing. A round has 64 packets, whose blocks go home before the next one is read.
 
-ghost use Rattle.std.specs.Prelude.{◌≡◌, ◌+◌, ◌≤◌, length, IfOk, IfSome};
+ghost use Rattle.std.specs.Prelude.{◌≡◌, ◌+◌, length, IfOk, IfSome};
 ghost use Rattle.pcap_io.specs.Places.{IsReady};
 ghost use Rattle.pcap_io.specs.Readers.{place_of};
 ghost use Rattle.pcap_io.specs.declared.heads.Link.TheVariants.{Ethernet};
@@ -136,8 +136,8 @@ fn time_round(
 ) -> Result<Option<Duration>, Error>
     requires ready { IsReady (place_of reader.old) }
     requires link { (place_of reader.old).link ≡ Ethernet }
-    requires home { rounds.old.home ≡ rounds.old.blocks }
-    ensures home { rounds.new.home ≡ rounds.new.blocks }
+    requires home { length rounds.old.stock ≡ rounds.old.blocks }
+    ensures home { length rounds.new.stock ≡ rounds.new.blocks }
     ensures ready { IfOk result (λ found. IfSome found (λ _. IsReady (place_of reader.new))) }
     ensures link { IfOk result (λ found. IfSome found (λ _. (place_of reader.new).link ≡ Ethernet)) }
 {
@@ -162,8 +162,8 @@ fn time_pass(
     rounds: &mut Rounds,
     bytes: Vec<u8>,
 ) -> Result<(Duration, u64), Error>
-    requires home { rounds.old.home ≡ rounds.old.blocks }
-    ensures home { rounds.new.home ≡ rounds.new.blocks }
+    requires home { length rounds.old.stock ≡ rounds.old.blocks }
+    ensures home { length rounds.new.stock ≡ rounds.new.blocks }
 {
     let mut feed = Feed {
         inner: MemSource::new(bytes, 65536, Vec::new(rt.alloc())),

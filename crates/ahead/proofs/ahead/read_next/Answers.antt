@@ -43,7 +43,7 @@ pub returns-clause-came : goal.returns-clause-came
 returns-clause-came g c =
     let r = c.read-halt in
     let i = c.args.intake.now in
-    came_ahead (brought_by g.H.Supply.weights g.H.Supply.refusals c.args.more.now) (brought_by g.H.Supply.weights g.H.Supply.refusals r.new.more) _ i.home r.new.self.home (λ h. weighed h i.stock)
+    came_ahead (brought_by g.H.Supply.weights g.H.Supply.refusals c.args.more.now) (brought_by g.H.Supply.weights g.H.Supply.refusals r.new.more) _ (length i.stock) (length r.new.self.stock) (λ h. weighed h i.stock)
     (λ h. weighed h r.new.self.stock) c.in-Ok.reading r.new.round.round _ c.in-Ok.ensures.begun (ahead_round r.new.round r.result c.of.result c.of.ensures.is) r.ensures.came
 
 pub returns-clause-takes : goal.returns-clause-takes

@@ -4,7 +4,7 @@ use Rattle.block_pool.specs.Giving.{given_by, given_in, GiverState}
 use Rattle.block_pool.specs.Listed.{blocks_in}
 use Rattle.block_pool.specs.PassState.{risen}
 use Rattle.block_pool.specs.PoolState.{home}
-use Rattle.block_supply.proofs.Listing.{listed_ones}
+use Rattle.block_supply.proofs.Listing.{ones}
 use Rattle.block_supply.specs.declared.taker.Taker.{Taker}
 use Rattle.offload_model.specs.Written.{round_records}
 use Rattle.gro.specs.Slots.{packet_of}
@@ -32,14 +32,14 @@ closed_ok P (Err rest) (Ok w) is p = absurd (false≢true is)
 closed_ok P (Err rest) (Err e) is p = tt
 
 closed_empties : (worked : Result WorkedState RestState) (old new : RoundsState)
-    → MatchResult worked (λ _. new ≡ old) (λ rest. new ≡ record old { home = old.home + rest.blocks; stock = new.stock }) → new.empties ≡ old.empties
+    → MatchResult worked (λ _. new ≡ old) (λ rest. (new ≡ record old { stock = new.stock }) × (length new.stock ≡ length old.stock + rest.blocks)) → new.empties ≡ old.empties
 closed_empties (Ok w) old new is = ap (λ (s : RoundsState). s.empties) is
-closed_empties (Err rest) old new is = ap (λ (s : RoundsState). s.empties) is
+closed_empties (Err rest) old new is = ap (λ (s : RoundsState). s.empties) is.0
 
 closed_spares : (worked : Result WorkedState RestState) (old new : RoundsState)
-    → MatchResult worked (λ _. new ≡ old) (λ rest. new ≡ record old { home = old.home + rest.blocks; stock = new.stock }) → new.spares ≡ old.spares
+    → MatchResult worked (λ _. new ≡ old) (λ rest. (new ≡ record old { stock = new.stock }) × (length new.stock ≡ length old.stock + rest.blocks)) → new.spares ≡ old.spares
 closed_spares (Ok w) old new is = ap (λ (s : RoundsState). s.spares) is
-closed_spares (Err rest) old new is = ap (λ (s : RoundsState). s.spares) is
+closed_spares (Err rest) old new is = ap (λ (s : RoundsState). s.spares) is.0
 
 -- its spares were given, or a put was refused
 gave_worked : (n blocks refused refused' : ℕ) (from : GiverState) (to : Option GiverState) (read : ReadAhead) (worked : Result WorkedState RestState)
@@ -55,11 +55,11 @@ all_ok (Err e) all = tt
 
 -- of its blocks those that weren't given are out, or come home
 closed_home : {E : Type 0} (blocks from given : ℕ) (worked : Result WorkedState RestState) (result : Result WorkedState E) (old new : RoundsState) → MatchResult worked (λ w. result ≡ Ok w) (λ _. IsErr result)
-    → MatchResult worked (λ _. new ≡ old) (λ rest. new ≡ record old { home = old.home + rest.blocks; stock = new.stock }) → IfOk worked (λ w. w.blocks + given ≡ blocks + from)
-    → IfErr worked (λ r. r.blocks + given ≡ blocks + from) → new.home + blocks_out result + given ≡ old.home + blocks + from
-closed_home blocks from given (Ok w) result old new is same out rest = omega (arith, ap (λ (s : RoundsState). s.home) same, ap blocks_out is, out)
+    → MatchResult worked (λ _. new ≡ old) (λ rest. (new ≡ record old { stock = new.stock }) × (length new.stock ≡ length old.stock + rest.blocks)) → IfOk worked (λ w. w.blocks + given ≡ blocks + from)
+    → IfErr worked (λ r. r.blocks + given ≡ blocks + from) → length new.stock + blocks_out result + given ≡ length old.stock + blocks + from
+closed_home blocks from given (Ok w) result old new is same out rest = omega (arith, ap (λ (s : RoundsState). length s.stock) same, ap blocks_out is, out)
 closed_home blocks from given (Err r) (Ok w) old new is same out rest = absurd (false≢true is)
-closed_home blocks from given (Err r) (Err e) old new is same out rest = omega (arith, ap (λ (s : RoundsState). s.home) same, rest)
+closed_home blocks from given (Err r) (Err e) old new is same out rest = omega (arith, same.1, rest)
 
 lent_within : (blocks from given : ℕ) (worked : Result WorkedState RestState) → IfOk worked (λ w. w.blocks + given ≡ blocks + from) → IfErr worked (λ r. r.blocks + given ≡ blocks + from) → given ≤ blocks + from
 lent_within blocks from given (Ok w) out rest = omega (arith, out)
@@ -71,14 +71,14 @@ rest_within blocks from given home made (Ok w) rest fits = tt
 rest_within blocks from given home made (Err r) rest fits = omega (arith, rest, fits)
 
 -- what came home of lists, by their number
-came_listed : (g : given.Over) (c : After-work_beside-read g) → c.work_beside-read.new.intake.home + (round_of c.work_beside-read.result.0).blocks + home c.work_beside-read.new.more.taker.left
-    ≡ c.rounds.inside.intake.home + blocks_in c.work_beside-read.new.more.taker.pass.taken
+came_listed : (g : given.Over) (c : After-work_beside-read g)
+    → length c.work_beside-read.new.intake.stock + (round_of c.work_beside-read.result.0).blocks + home c.work_beside-read.new.more.taker.left
+    ≡ length c.rounds.inside.intake.stock + blocks_in c.work_beside-read.new.more.taker.pass.taken
 came_listed g c =
     let w = c.work_beside-read in
     let more = w.new.more.taker in
-    let old = c.new-more.result.taker in
     let none = ap (λ (t : Taker). blocks_in t.pass.taken) c.new-more.ensures.same ∙ ap blocks_in c.requires.untaken.0 in
-    omega (arith, w.ensures.came.sum, listed_ones more.pass more.left, listed_ones old.pass old.left, more.counted, none)
+    omega (arith, w.ensures.came.sum, ones more.left.blocks, more.weighs (λ _. 1), none)
 
 pub bring_lists-requires-clause-room : goal.bring_lists-requires-clause-room
 bring_lists-requires-clause-room g c =
@@ -89,7 +89,7 @@ bring_lists-requires-clause-room g c =
       lent_within c.args.round.blocks (given_in c.args.giver) (given_by w.new.giver) w.result.1 w.ensures.lends.worked w.ensures.lends.rest,
       ap blocks_in c.requires.ungiven.1,
       c.requires.out,
-      ap (λ (s : RoundsState). s.home) c.rounds.view_is,
+      ap (λ (s : RoundsState). length s.stock) c.rounds.view_is,
       ap (λ (s : RoundsState). s.blocks) c.rounds.view_is,
       w.ensures.intake.0,
     )
@@ -98,14 +98,14 @@ pub close_work-requires : goal.close_work-requires
 close_work-requires g c =
     let w = c.work_beside-read in
     record {
-      out = rest_within c.args.round.blocks (given_in c.args.giver) (given_by w.new.giver) c.bring_lists.new.intake.home c.bring_lists.new.intake.blocks w.result.1 w.ensures.lends.rest (omega (
+      out = rest_within c.args.round.blocks (given_in c.args.giver) (given_by w.new.giver) (length c.bring_lists.new.intake.stock) c.bring_lists.new.intake.blocks w.result.1 w.ensures.lends.rest (omega (
         arith,
         came_listed g (goal.at.close_work-requires g c).After-work_beside-read,
         c.bring_lists.ensures.home,
         ap (λ (s : IntakeState). s.blocks) c.bring_lists.ensures.same,
         ap blocks_in c.requires.ungiven.1,
         c.requires.out,
-        ap (λ (s : RoundsState). s.home) c.rounds.view_is,
+        ap (λ (s : RoundsState). length s.stock) c.rounds.view_is,
         ap (λ (s : RoundsState). s.blocks) c.rounds.view_is,
         w.ensures.intake.0,
       ));
@@ -121,7 +121,7 @@ returns-clause-home g c =
       closed_home c.args.round.blocks (given_in c.args.giver) (given_by w.new.giver) w.result.1 _ _ c.close_work.new.rounds c.close_work.ensures.worked c.close_work.ensures.home w.ensures.lends.worked w.ensures.lends.rest,
       ap blocks_in c.requires.ungiven.1,
       c.requires.out,
-      ap (λ (s : RoundsState). s.home) c.rounds.view_is,
+      ap (λ (s : RoundsState). length s.stock) c.rounds.view_is,
       ap (λ (s : RoundsState). s.blocks) c.rounds.view_is,
     )
 

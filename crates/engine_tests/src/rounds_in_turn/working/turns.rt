@@ -296,23 +296,19 @@ fn read_where_they_lie(rt: HostRuntime) {
     assert_eq!(rt; (seen, all_home(&rt, lanes)), ((true, true, 8), 8));
 }
 
-// Works as one thread does, though another one is said to be free for one tap.
+// Works as one thread does, though others are said to read for taps.
 #[derive(Drop)]
-struct OneBeside<'a, G> {
+struct OthersRead<'a, G> {
     own: Alone<'a, G>,
 }
 
-impl<G: Gate> Works for OneBeside<'_, G> {
+impl<G: Gate> Works for OthersRead<'_, G> {
     ghost use Rattle.std.specs.Prelude.{false};
 
     ghost gives = { false };
 
-    fn reads_here(&self, packets: &Packets) -> bool {
-        self.own.reads_here(packets)
-    }
-
-    fn taps_beside(&self, _plan: &LanePlan, _packets: &Packets) -> u32 {
-        1
+    fn reads_here(&self, _packets: &Packets) -> bool {
+        false
     }
 
     fn pass(&self, tap: u32, point: u32) {
@@ -324,9 +320,9 @@ impl<G: Gate> Works for OneBeside<'_, G> {
     }
 }
 
-/// Of two taps one has clones and one reads packets where they lie.
+/// Of two taps each has a clone of each packet, and reads it behind the queues.
 #[test]
-fn one_tap_beside(rt: HostRuntime) {
+fn clones_in_turn(rt: HostRuntime) {
     let alloc = rt.alloc();
     let gate = Count {
         passes: AtomicU32::new(0),
@@ -337,7 +333,7 @@ fn one_tap_beside(rt: HostRuntime) {
         in_turn(&rt, alloc),
         &plain(2, 2, 64),
         true,
-        &mut OneBeside {
+        &mut OthersRead {
             own: Alone { gate: &gate },
         },
     );

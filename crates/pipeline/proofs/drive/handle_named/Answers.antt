@@ -4,6 +4,7 @@ use Rattle.block_pool.specs.Giving.{given_by, weights_given}
 use Rattle.block_pool.specs.Listed.{blocks_in}
 use Rattle.block_pool.specs.PassState.{SharedState}
 use Rattle.block_pool.specs.PoolState.{home, weighed}
+use Rattle.raw_block.specs.Views.{SoleState}
 use Rattle.rtrb.specs.Ring.{sent, received, known_items}
 use Rattle.rounds.specs.Benches.{options_at}
 use Rattle.rounds.specs.Merging.{options_of}
@@ -13,35 +14,46 @@ use Rattle.rounds.specs.declared.round.RoundRead.{RoundRead}
 use Rattle.rounds.specs.declared.spares.Spares.{Spares}
 use Rattle.rounds.specs.Handled.{GaveSpares}
 use Rattle.pipeline.specs.declared.parcel.Parcel.{Parcel}
-use Rattle.pipeline.specs.Handled.{blocks_out, weights_out}
+use Rattle.pipeline.specs.Handled.{weights_out}
 use Rattle.block_supply.specs.Lists.{HasGiver, weights_listed}
-use Rattle.pipeline.specs.Parcels.{blocks_of, weights_sent}
+use Rattle.pipeline.specs.Parcels.{weights_sent}
 use Rattle.rounds.specs.Reads.{reader_at}
-use Rattle.pipeline.proofs.Rows.{blocks_append, sum_of_both, weights_sent_append}
-use Rattle.pipeline.proofs.Counting.{all_counted, all_out, all_weighed, few_home, room_home, room_later, room_left, whole_home}
+use Rattle.pipeline.proofs.Rows.{sum_of_both, weights_sent_append}
+use Rattle.pipeline.proofs.Counting.{all_counted, all_counts, few_home, room_later, room_left, whole_home}
 use Rattle.rounds.proofs.Going.{counted_as, ready_as}
-use Rattle.pipeline.proofs.Together.{all_went, ends_as, idle_as, left_out, left_weights, one_again}
-use Rattle.pipeline.proofs.Lending.{gave_home, giver_back}
+use Rattle.pipeline.proofs.Together.{all_went, ends_as, idle_as, left_weights, one_again}
+use Rattle.block_supply.proofs.Listing.{ones}
+use Rattle.pipeline.proofs.Lending.{gave_home, given_ones, giver_back}
 use Rattle.pipeline.proofs.drive.handle_named.Given as given
 use Rattle.pipeline.proofs.drive.handle_named.Goals as goal
 use Rattle.pipeline.proofs.drive.handle_named.Goals.{After-ending-ended}
 
--- where all blocks are counted: home, in lists, in rounds that nobody worked, or in the round that comes back
-counted : (g : given.Over) (c : After-ending-ended g)
-    → c.run_sides-end.new.intake.home + home c.run_sides-end.new.list + home c.close-taker.result.left + given_by c.run_sides-end.new.giver + blocks_of (known_items c.ending-ended.new.from)
-    + blocks_out c.ending-ended.result ≡ c.args.rounds.now.blocks + blocks_in c.close-taker.result.pass.taken
-counted g c =
+-- where all blocks are: home, in lists, in rounds that nobody worked, or in the round that comes back
+counted : (g : given.Over) (c : After-ending-ended g) (h : ℕ → ℕ)
+    → weighed h c.run_sides-end.new.intake.stock + weighed h c.run_sides-end.new.list.blocks + weighed h c.close-taker.result.left.blocks + weights_given c.run_sides-end.new.giver h
+    + weights_sent h (known_items c.ending-ended.new.from) + weights_out c.ending-ended.result h
+    ≡ weighed h c.args.rounds.now.stock + weights_of c.args.read.round h + weights_listed h c.close-taker.result.pass.taken
+counted g c h =
     let a = c.slots_beside-waiting.ensures in
-    all_counted c.run_sides-end.new.intake.home c.rounds.inside.intake.home (blocks_of (sent c.send_first.new.out)) (home c.run_sides-end.new.list) (given_by c.run_sides-end.new.giver)
-    (blocks_of (received c.run_sides-end.new.from)) (blocks_of (known_items c.ending-ended.new.from)) (blocks_out c.ending-ended.result) (home c.new.result.taker.left)
-    c.run_sides-end.ensures.read.sum c.run_sides-end.ensures.worked.each c.run_sides-end.new.supply.arrivals.taker.counted
-    (ap (λ t. blocks_in t.pass.taken) c.new.ensures.same ∙ ap blocks_in c.args.way.untaken.0) (ap blocks_in c.args.way.ungiven.1)
-    (sum_of_both blocks_of blocks_append (received c.run_sides-end.new.from) (received c.slots_beside-waiting.new.self) (known_items c.slots_beside-waiting.new.self) _ _ a.looked.1 a.fifo a.producer.1)
-    (left_out g.H.RoundHandler.stopped c.run_sides-end.result c.ending-ended.result (known_items c.slots_beside-waiting.new.self) (known_items c.ending-ended.new.from) c.ending-ended.ensures.some
+    all_counted (weighed h c.run_sides-end.new.intake.stock) (weighed h c.rounds.inside.intake.stock) (weights_sent h (sent c.send_first.new.out)) (weighed h c.run_sides-end.new.list.blocks)
+    (weights_given c.run_sides-end.new.giver h) (weights_sent h (received c.run_sides-end.new.from)) (weights_sent h (known_items c.ending-ended.new.from)) (weights_out c.ending-ended.result h)
+    (weighed h c.new.result.taker.left.blocks)
+    (c.run_sides-end.ensures.read.named h) (c.run_sides-end.ensures.worked.each h) (c.run_sides-end.new.supply.arrivals.taker.weighs h)
+    (ap (λ t. weights_listed h t.pass.taken) c.new.ensures.same ∙ ap (weights_listed h) c.args.way.untaken.0) (ap (weights_listed h) c.args.way.ungiven.1)
+    (sum_of_both (weights_sent h) (weights_sent_append h) (received c.run_sides-end.new.from) (received c.slots_beside-waiting.new.self) (known_items c.slots_beside-waiting.new.self) _ _ a.looked.1 a.fifo a.producer.1)
+    (left_weights h g.H.RoundHandler.stopped c.run_sides-end.result c.ending-ended.result (known_items c.slots_beside-waiting.new.self) (known_items c.ending-ended.new.from) c.ending-ended.ensures.some
     c.ending-ended.ensures.none)
-    (ap (λ t. home t.left) c.close-taker.ensures.same) (ap (λ t. blocks_in t.pass.taken) c.close-taker.ensures.same)
-    ∙ ap (λ (n : ℕ). n + blocks_in c.close-taker.result.pass.taken)
-    (all_out (ap (λ (s : RoundsState). s.home) c.rounds.view_is) (ap blocks_of c.send_first.ensures.sent.1) (ap (λ (x : RoundRead). x.round.blocks) c.send_first.ensures.sent.2) c.requires.out.out)
+    (ap (λ t. weighed h t.left.blocks) c.close-taker.ensures.same) (ap (λ t. weights_listed h t.pass.taken) c.close-taker.ensures.same)
+    (ap (λ (s : RoundsState). weighed h s.stock) c.rounds.view_is) (ap (weights_sent h) c.send_first.ensures.sent.1) (ap (λ (x : RoundRead). weights_of x.round h) c.send_first.ensures.sent.2)
+
+-- once those of lists are home, with these
+whole : (g : given.Over) (c : After-ending-ended g) (stock : List SoleState) (h : ℕ → ℕ)
+    → weighed h stock + weights_listed h c.close-taker.result.pass.taken
+    ≡ weighed h c.run_sides-end.new.intake.stock + weighed h c.run_sides-end.new.list.blocks + weighed h c.close-taker.result.left.blocks + weights_given c.run_sides-end.new.giver h
+    → weighed h stock + weights_sent h (known_items c.ending-ended.new.from) + weights_out c.ending-ended.result h ≡ weighed h c.args.rounds.now.stock + weights_of c.args.read.round h
+whole g c stock h came =
+    whole_home (weighed h stock) (weights_listed h c.close-taker.result.pass.taken) (weights_sent h (known_items c.ending-ended.new.from)) (weights_out c.ending-ended.result h) (weighed h c.args.rounds.now.stock)
+    (weights_of c.args.read.round h) came (counted g c h)
 
 pub run_sides-end-requires-clause-reads : goal.run_sides-end-requires-clause-reads
 run_sides-end-requires-clause-reads g c κs within =
@@ -87,11 +99,15 @@ bring_home-requires g c =
           (c.requires.way ∙ sym d.pooled ∙ sym (ap (λ t. arc_value t.lists) c.close-taker.ensures.same))
           (giver_back (arc_value w.taker.lists) (Some w.giver) c.run_sides-end.new.giver
           (record { it = w.giver; is = refl; pool_is = w.same; parts = w.ungiven.0; none = w.ungiven.2 }) k.lends);
-      room = room_home (blocks_of (known_items c.ending-ended.new.from)) (blocks_out c.ending-ended.result) (blocks_in c.close-taker.result.pass.taken) (counted g (goal.at.bring_home-requires g c).After-ending-ended) (r.same.0 ∙ ap (λ (s : RoundsState). s.blocks) c.rounds.view_is);
+      room = all_counts (length c.run_sides-end.new.intake.stock) (home c.run_sides-end.new.list) (home c.close-taker.result.left) (given_by c.run_sides-end.new.giver)
+          (weights_sent (λ _. 1) (known_items c.ending-ended.new.from)) (weights_out c.ending-ended.result (λ _. 1)) (weighed (λ _. 1) c.args.rounds.now.stock)
+          (weights_of c.args.read.round (λ _. 1)) (blocks_in c.close-taker.result.pass.taken)
+          (counted g (goal.at.bring_home-requires g c).After-ending-ended (λ _. 1)) (ones c.run_sides-end.new.intake.stock) (ones c.run_sides-end.new.list.blocks)
+          (ones c.close-taker.result.left.blocks) (given_ones c.run_sides-end.new.giver) (ones c.args.rounds.now.stock) (ap (λ (n : ℕ). length c.args.rounds.now.stock + n) c.blocks-2.ensures.weighs ∙ c.requires.out.out) (r.same.0 ∙ ap (λ (s : RoundsState). s.blocks) c.rounds.view_is);
     }
 
 abbrev lent : IntakeState → Spares → BenchState → RoundsState
-lent i s b = record { home = i.home; stock = i.stock; blocks = i.blocks; taken = i.taken; empties = i.empties; pauses = i.pauses; spares = s; budget = b.budget; plan = b.plan; keep = b.keep }
+lent i s b = record { stock = i.stock; blocks = i.blocks; taken = i.taken; empties = i.empties; pauses = i.pauses; spares = s; budget = b.budget; plan = b.plan; keep = b.keep }
 
 pub returns-in_default-clause-handled : goal.returns-in_default-clause-handled
 returns-in_default-clause-handled g c = (
@@ -111,7 +127,8 @@ pub drop_parcels-requires : goal.drop_parcels-requires
 drop_parcels-requires g c =
     let f = c.bring_home.ensures in
     record {
-      room = room_left c.bring_home.new.intake.home (blocks_in c.close-taker.result.pass.taken) (blocks_of (known_items c.ending-ended.new.from)) (blocks_out c.ending-ended.result) f.home (counted g (goal.at.drop_parcels-requires g c).After-ending-ended)
+      room = room_left (length c.bring_home.new.intake.stock) (weights_sent (λ _. 1) (known_items c.ending-ended.new.from)) (weights_out c.ending-ended.result (λ _. 1)) (weights_of c.args.read.round (λ _. 1))
+          (whole g (goal.at.drop_parcels-requires g c).After-ending-ended c.bring_home.new.intake.stock (λ _. 1) (f.named (λ _. 1))) (ones c.bring_home.new.intake.stock) (ones c.args.rounds.now.stock) (ap (λ (n : ℕ). length c.args.rounds.now.stock + n) c.blocks-2.ensures.weighs ∙ c.requires.out.out)
           (ap (λ (i : IntakeState). i.blocks) f.same ∙ c.run_sides-end.ensures.read.same.0 ∙ ap (λ (s : RoundsState). s.blocks) c.rounds.view_is);
     }
 
@@ -124,7 +141,7 @@ returns-clause-handled g c =
     let w = c.args.way in
     let p = c.prepare.ensures in
     let f = c.bring_home.ensures in
-    let d = c.drop_parcels.ensures.home in
+    let d = c.drop_parcels.ensures.same in
     let known = known_items c.slots_beside-waiting.new.self in
     let left = known_items c.ending-ended.new.from in
     let first = c.args.rounds.now in
@@ -135,17 +152,8 @@ returns-clause-handled g c =
     let options : options_at c.prepare.new.bench ≡ options_of first = ap options_at p.same ∙ ap options_of view in
     let keep = ap (λ (b : BenchState). b.keep) p.same ∙ ap (λ (s : RoundsState). s.keep) view in
     let named : (h : ℕ → ℕ) → weighed h new.stock + weights_out c.ending-ended.result h ≡ weighed h first.stock + weights_of c.args.read.round h =
-    λ h.
-    all_weighed (weighed h c.run_sides-end.new.intake.stock) (weighed h c.run_sides-end.new.list.blocks) (weights_given c.run_sides-end.new.giver h)
-    (weights_sent h (received c.run_sides-end.new.from)) (weights_sent h left) (weights_out c.ending-ended.result h) (weighed h c.new.result.taker.left.blocks) (weighed h c.bring_home.new.intake.stock)
-    (r.named h) (k.each_named h) (c.run_sides-end.new.supply.arrivals.taker.weighs h)
-    (ap (λ t. weights_listed h t.pass.taken) c.new.ensures.same ∙ ap (weights_listed h) w.untaken.0) (ap (weights_listed h) w.ungiven.1)
-    (sum_of_both (weights_sent h) (weights_sent_append h) (received c.run_sides-end.new.from) (received c.slots_beside-waiting.new.self) known _ _ a.looked.1 a.fifo a.producer.1)
-    (left_weights h g.H.RoundHandler.stopped c.run_sides-end.result c.ending-ended.result known left e.some e.none) (ap (λ t. weighed h t.left.blocks) c.close-taker.ensures.same)
-    (ap (λ t. weights_listed h t.pass.taken) c.close-taker.ensures.same) (f.named h) (c.drop_parcels.ensures.named h) (ap (λ (s : RoundsState). weighed h s.stock) view)
-    (ap (weights_sent h) c.send_first.ensures.sent.1) (ap (λ (x : RoundRead). weights_of x.round h) c.send_first.ensures.sent.2) in
-    let whole = c.bring_home.new.intake.home + blocks_of left in
-    all_went (did (options_of first)) g.H.RoundHandler.stopped (g.H.RoundHandler.ready (options_of first) first.keep) first new intake whole c.run_sides-end.new.intake.taken c.args.read
+    λ h. ap (λ (n : ℕ). n + weights_out c.ending-ended.result h) (c.drop_parcels.ensures.named h) ∙ whole g (goal.at.returns-clause-handled g c).After-ending-ended c.bring_home.new.intake.stock h (f.named h) in
+    all_went (did (options_of first)) g.H.RoundHandler.stopped (g.H.RoundHandler.ready (options_of first) first.keep) first new intake c.run_sides-end.new.intake.taken c.args.read
     (reader_at g.S.Source.left g.S.Source.faults c.args.reader.now first.taken) (reader_at g.S.Source.left g.S.Source.faults c.run_sides-end.new.reader new.taken)
     (sent c.send_first.new.out) (sent c.run_sides-end.new.supply.out) (received c.run_sides-end.new.from) known
     (record {
@@ -157,7 +165,6 @@ returns-clause-handled g c =
         ap options_of d ∙ ap options_at k.same ∙ options,
         ap (λ (s : RoundsState). s.keep) d ∙ ap (λ (b : BenchState). b.keep) k.same ∙ keep,
       );
-      all = ap (λ (s : RoundsState). s.home) d;
       after = ap (λ (s : RoundsState). s.taken) d ∙ ap (λ (i : IntakeState). i.taken) f.same;
       pauses = few_home c.new.result.taker.pass.empties r.paused (ap (λ (s : RoundsState). s.pauses) d ∙ ap (λ (i : IntakeState). i.pauses) f.same) (ap (λ (s : RoundsState). s.pauses) view)
           (ap (λ (s : RoundsState). s.empties) d ∙ f.empties) (r.same.2 ∙ ap (λ (s : RoundsState). s.empties) view) (ap (λ t. t.pass.empties) c.close-taker.ensures.same);
@@ -168,6 +175,7 @@ returns-clause-handled g c =
     })
     (record {
       out = c.requires.out.out;
+      weighs = c.blocks-2.ensures.weighs;
       full = c.requires.full;
       few = subst (λ (n : ℕ). n < 2 ^ 64) c.taken.ensures.value c.taken.type_inv;
       alone = c.send_first.ensures.sent;
@@ -178,7 +186,7 @@ returns-clause-handled g c =
     c.args.into.now c.run_sides-end.new.into
     (counted_as did g.H.RoundHandler.stopped g.H.RoundHandler.ready (options_of first) (options_at c.prepare.new.bench) first.keep c.prepare.new.bench.keep (2 ^ 32 + 4096) c.run_sides-end.new.into options
     keep k.ready)
-    c.run_sides-end.result c.ending-ended.result left (whole_home c.bring_home.new.intake.home (blocks_in c.close-taker.result.pass.taken) (blocks_of left) (blocks_out c.ending-ended.result) f.home (counted g (goal.at.returns-clause-handled g c).After-ending-ended)) named
+    c.run_sides-end.result c.ending-ended.result left named
     (ends_as did g.H.RoundHandler.stopped (options_of first) (options_at c.prepare.new.bench) (received c.run_sides-end.new.from) c.args.into.now c.run_sides-end.new.into c.run_sides-end.result
     options k.handled)
     e.some e.none
@@ -192,7 +200,7 @@ invariant_of-rounds g c =
       blocks = ap (λ (b : BenchState). b.blocks) p.same ∙ v.blocks;
       budget = ap (λ (b : BenchState). b.budget) p.same ∙ v.budget;
       few = v.few;
-      room = room_later (i.blocks + i.blocks) (i.home + i.home) c.rounds.inside.bench.room c.prepare.new.bench.room v.room p.later;
+      room = room_later (i.blocks + i.blocks) (length i.stock + length i.stock) c.rounds.inside.bench.room c.prepare.new.bench.room v.room p.later;
     }
 
 pub returns-clause-same_source : goal.returns-clause-same_source

@@ -23,7 +23,7 @@ handle_from-requires-clause-start g c =
       0 + length c.args.read.round.packets,
       omega (arith, goes.packets),
       ready_as (g.H.RoundHandler.did c.args.handler.now) g.H.RoundHandler.stopped g.H.RoundHandler.ready (options_of mid) (options_of first) mid.keep first.keep (0 + length c.args.read.round.packets)
-          c.handle.new.into (sym (ap options_of h.home)) (sym (ap (λ (s : RoundsState). s.keep) h.home)) (h.ready 0 c.requires.out.start),
+          c.handle.new.into (sym (ap options_of h.home.0)) (sym (ap (λ (s : RoundsState). s.keep) h.home.0)) (h.ready 0 c.requires.out.start),
     )
 
 pub returns-in-None-clause-handled : goal.returns-in-None-clause-handled

@@ -1,21 +1,21 @@
 use Rattle.std.proofs.Common.{◌≡◌, ◌∙◌, ◌∷◌, ◌+◌, ◌++◌, [], ℕ, List, ap, sym, subst, refl, arith, length, length-append, append-nil}
 use Rattle.rtrb.specs.Ring.{sent, SameProducer}
 use Rattle.pipeline.specs.declared.parcel.Parcel.{Parcel}
-use Rattle.block_supply.specs.Lists.{listed_home, weights_home}
-use Rattle.pipeline.specs.Parcels.{blocks_of, packets_of, rounds_of, weights_sent, IsFit}
+use Rattle.block_supply.specs.Lists.{weights_home}
+use Rattle.pipeline.specs.Parcels.{packets_of, rounds_of, weights_sent, IsFit}
 use Rattle.pipeline.specs.Reads.{HasRead}
 use Rattle.block_pool.specs.PoolState.{weighed}
-use Rattle.crossing.specs.Arriving.{brought_to, weights_to}
+use Rattle.crossing.specs.Arriving.{weights_to}
 use Rattle.crossing.specs.declared.arrivals.Arrivals.{Arrivals}
 use Rattle.crossing.specs.declared.post.Post.{Ghosts}
 use Rattle.rounds.specs.RoundsState.{IntakeState}
 use Rattle.rounds.specs.Weights.{weights_of}
-use Rattle.pipeline.proofs.Counting.{counted_to, least_equal, least_same, least_then, most_same, number_more, packets_more, read_more, read_stopped}
+use Rattle.pipeline.proofs.Counting.{least_equal, least_same, least_then, most_same, number_more, packets_more, read_more, read_stopped}
 use Rattle.pipeline.proofs.Kept.{producer_then}
 use Rattle.rounds.specs.Reads.{reader_at, Reads, Spot}
 use Rattle.rounds.proofs.Going.{few_later, few_none, few_paused}
 use Rattle.rounds.proofs.Rows.{all_go_last, full_end, reads_last}
-use Rattle.pipeline.proofs.Rows.{blocks_last, packets_append, read_as, rounds_last, sent_more, weights_sent_append}
+use Rattle.pipeline.proofs.Rows.{packets_append, read_as, rounds_last, sent_more, weights_sent_append}
 use Rattle.pipeline.proofs.sides.read_side.Given as given
 use Rattle.pipeline.proofs.sides.read_side.Goals as goal
 use Rattle.pipeline.proofs.sides.read_side.Goals.{After-is_full}
@@ -24,7 +24,6 @@ use Rattle.pipeline.proofs.sides.read_side.Goals.{After-is_full}
 read_nothing : {W : Type 0} {G : Ghosts W} (intake : IntakeState) (at : Spot) (xs : List Parcel) (arrivals : Arrivals W G) → HasRead intake intake at at xs xs arrivals arrivals
 read_nothing intake at xs arrivals = record {
   read = record { more = []; sent = sym (append-nil (rounds_of xs)); reads = refl };
-  sum = refl;
   named = λ h. refl;
   paused = few_none _ _ _ _ (omega arith) refl;
   same = (refl, refl, refl);
@@ -75,10 +74,6 @@ all_read g c =
               failed = r.failed;
             }));
       };
-      sum = read_more l.intake.home (blocks_of (sent l.supply.out)) (brought_to c.args.supply.now.arrivals) c.args.intake.now.home (blocks_of (sent c.args.supply.now.out)) (brought_to l.supply.arrivals)
-          c.bring_more.new.self.home c.read_beside-read.new.self.home c.read_beside-read.result.round.blocks (brought_to c.bring_more.new.more) e.sum (ap (λ t. listed_home t.pass t.left) w)
-          (counted_to c.await_place.new.self c.bring_more.new.more _ _ b.sum) (counted_to c.bring_more.new.more c.read_beside-read.new.more _ _ r.sum)
-          (ap (λ t. listed_home t.pass t.left) d) (ap blocks_of s ∙ blocks_last (sent l.supply.out) (parcel g c));
       named = λ h.
           read_more (weighed h l.intake.stock) (weights_sent h (sent l.supply.out)) (weights_to c.args.supply.now.arrivals h) (weighed h c.args.intake.now.stock) (weights_sent h (sent c.args.supply.now.out))
           (weights_to l.supply.arrivals h) (weighed h c.bring_more.new.self.stock) (weighed h c.read_beside-read.new.self.stock) (weights_of c.read_beside-read.result.round h) (weights_to c.bring_more.new.more h) (e.named h)
@@ -105,10 +100,6 @@ returns-then-has_stopped-clause-read g c =
         reads = subst (λ (t : ℕ). Reads c.args.intake.now.blocks c.args.intake.now.budget
             (reader_at g.S.Source.left g.S.Source.faults c.args.reader.now c.args.intake.now.taken) e.read.more (reader_at g.S.Source.left g.S.Source.faults l.reader t)) (sym b.same.1) e.read.reads;
       };
-      sum = ap (λ (n : ℕ). c.bring_more.new.self.home + n + brought_to c.args.supply.now.arrivals) (ap blocks_of s)
-          ∙ read_stopped l.intake.home (blocks_of (sent l.supply.out)) (brought_to c.args.supply.now.arrivals) c.args.intake.now.home (blocks_of (sent c.args.supply.now.out)) (brought_to l.supply.arrivals)
-          c.bring_more.new.self.home (brought_to c.bring_more.new.more) e.sum (ap (λ t. listed_home t.pass t.left) w)
-          (counted_to c.await_place.new.self c.bring_more.new.more _ _ b.sum);
       named = λ h.
           ap (λ (n : ℕ). weighed h c.bring_more.new.self.stock + n + weights_to c.args.supply.now.arrivals h) (ap (weights_sent h) s)
           ∙ read_stopped (weighed h l.intake.stock) (weights_sent h (sent l.supply.out)) (weights_to c.args.supply.now.arrivals h) (weighed h c.args.intake.now.stock)

@@ -8,10 +8,10 @@ use Rattle.rounds.specs.Weights.{weights_of}
 use Rattle.rounds.specs.declared.round.RoundRead.{RoundRead}
 use Rattle.rounds.specs.Handled.{Ends, IsReadyAtEnd, Went}
 use Rattle.pipeline.specs.declared.parcel.Parcel.{Parcel}
-use Rattle.pipeline.specs.Parcels.{blocks_of, last_blocks, packets_of, rounds_of, spares_before, spares_of, weights_sent, CountsSpares, IsLeft}
+use Rattle.pipeline.specs.Parcels.{last_blocks, packets_of, rounds_of, spares_before, spares_of, weights_sent, CountsSpares, IsLeft}
 use Rattle.rounds.proofs.Going.{ready_as, went_more, went_ends, went_stopped}
 use Rattle.block_supply.proofs.Listing.{weighed_none}
-use Rattle.pipeline.proofs.Rows.{before_few, before_last, blocks_last, last_is, packets_append, packets_none, rounds_last, spares_last, weights_sent_append}
+use Rattle.pipeline.proofs.Rows.{before_few, before_last, last_is, packets_append, packets_none, rounds_last, spares_last, weights_sent_append}
 use Rattle.pipeline.proofs.Together.{handled_as}
 use Rattle.pipeline.proofs.Kept.{bench_then, consumer_then}
 use Rattle.pipeline.proofs.Counting.{came_more, left_last, may_bring, room_kept, room_more}
@@ -21,16 +21,9 @@ use Rattle.pipeline.proofs.sides.work_rounds.Goals as goal
 use Rattle.pipeline.proofs.sides.work_rounds.Goals.{After-handle, After-count, In-None-handle}
 
 -- where the blocks of all rounds are that came, once the last of them was handled
-came : (g : given.Over) (c : After-handle g) → home c.handle.new.home + given_by c.handle.new.giver ≡ blocks_of (received c.next_round.new.from) + given_by c.args.giver.now
-came g c =
-    let r = c.next_round.ensures.returns in
-    came_more (home c.loop.list) (given_by c.loop.giver) (blocks_of (received c.loop.from)) (given_by c.args.giver.now) (home c.next_round.new.list) (given_by c.next_round.new.giver) (home c.handle.new.home) (given_by c.handle.new.giver) c.loop.invariant.each
-    r.sum c.handle.ensures.brings.count (ap (λ (r : RoundRead). r.round.blocks) c.open-number.ensures.same.1)
-    (ap blocks_of c.in-Some-next_round.ensures.item.came ∙ blocks_last (received c.loop.from) c.in-Some-next_round.parcel)
-
-came_named : (g : given.Over) (c : After-handle g) (h : ℕ → ℕ) → weighed h c.handle.new.home.blocks + weights_given c.handle.new.giver h
+came : (g : given.Over) (c : After-handle g) (h : ℕ → ℕ) → weighed h c.handle.new.home.blocks + weights_given c.handle.new.giver h
     ≡ weights_sent h (received c.next_round.new.from) + weights_given c.args.giver.now h
-came_named g c h =
+came g c h =
     let r = c.next_round.ensures.returns in
     came_more (weighed h c.loop.list.blocks) (weights_given c.loop.giver h) (weights_sent h (received c.loop.from)) (weights_given c.args.giver.now h) (weighed h c.next_round.new.list.blocks) (weights_given c.next_round.new.giver h) (weighed h c.handle.new.home.blocks)
     (weights_given c.handle.new.giver h) (c.loop.invariant.named h) (r.named h) (c.handle.ensures.brings.named h) (ap (λ (r : RoundRead). weights_of r.round h) c.open-number.ensures.same.1)
@@ -156,7 +149,6 @@ loop-init g c =
       from = ((refl, refl, refl, refl), refl);
       room = a.room;
       bench = refl;
-      each = omega (arith, a.empty, ap blocks_of a.none);
       named = λ h. omega (arith, weighed_none h c.args.list.now.blocks a.empty, ap (weights_sent h) a.none);
       lends = lends_same giver a.lent;
       left = left_few 0 c.args.list.now giver giver (omega (arith, a.empty));
@@ -177,8 +169,7 @@ returns-in_default-clause-worked g c =
       handled = subst (λ (xs : List Parcel). Ends did g.H.RoundHandler.stopped 0 c.args.into.now l.into (rounds_of xs) c.stop.result) (sym same)
           (went_stopped did g.H.RoundHandler.stopped 0 c.args.into.now l.into (rounds_of (received l.from)) c.stop.result c.stop.ensures.end i.went);
       ready = (packets_of (rounds_of (received l.from)), i.few, i.ready);
-      each = omega (arith, i.each, r.sum, ap blocks_of same);
-      each_named = λ h. omega (arith, i.named h, r.named h, ap (weights_sent h) same);
+      each = λ h. omega (arith, i.named h, r.named h, ap (weights_sent h) same);
       lends = lends_then c.args.giver.now l.giver c.next_round.new.giver i.lends r.gave;
       none_left = left_again 0 (last_blocks (received c.next_round.new.from)) l.list c.next_round.new.list c.args.giver.now l.giver c.next_round.new.giver r.gave
           (λ few. omega (arith, few, returns_fewer l.giver c.next_round.new.giver l.list c.next_round.new.list r)) i.left;
@@ -224,7 +215,6 @@ returns-in-Some-handle-clause-worked g c =
           )));
       ready = ready_on g at;
       each = came g at;
-      each_named = came_named g at;
       lends = lent_on g at;
       none_left = left_on g at;
       spares = spares_left g at;
@@ -246,7 +236,6 @@ returns-in_default-make_ready-clause-worked g c =
           c.stop-in_default-make_ready.ensures.end (went_on g (goal.at.returns-in_default-make_ready-clause-worked g c).In-None-handle);
       ready = ready_on g at;
       each = came g at;
-      each_named = came_named g at;
       lends = lent_on g at;
       none_left = left_on g at;
       spares = counts_again _ _ c.args.spares.now c.count.new.self c.args.giver.now c.handle.new.giver c.handle.new.giver (before_few (received c.next_round.new.from))
@@ -268,8 +257,7 @@ loop-preserved g c =
       from = consumer_then c.args.from.now l.from c.next_round.new.from i.from c.next_round.ensures.ring;
       room = c.in-Ok.ensures.room;
       bench = bench_then first c.handle.new.bench c.make_ready.new.bench (bench_then first l.bench c.handle.new.bench i.bench h.brings.same) m.same;
-      each = r.sum ∙ came g p;
-      named = λ x. r.named x ∙ came_named g p x;
+      named = λ x. r.named x ∙ came g p x;
       lends = lends_then c.args.giver.now c.handle.new.giver c.give_back.new.giver (lent_on g p) r.gave;
       spares = counts_again _ _ c.args.spares.now c.count.new.self c.args.giver.now c.handle.new.giver c.give_back.new.giver (le_refl (spares_of (received c.next_round.new.from))) r.gave
           (spares_more g (goal.at.loop-preserved g c).After-count);

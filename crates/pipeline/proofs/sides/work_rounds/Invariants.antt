@@ -1,10 +1,10 @@
 use Rattle.std.proofs.Common.{◌≡◌, ℕ, ◌≤◌, ◌+◌, ◌^◌}
-use Rattle.block_pool.specs.Giving.{given_by, weights_given}
-use Rattle.block_pool.specs.PoolState.{home, weighed}
+use Rattle.block_pool.specs.Giving.{weights_given}
+use Rattle.block_pool.specs.PoolState.{weighed}
 use Rattle.rounds.specs.Benches.{options_at, HasRoom, IsSameBench, Lends}
 use Rattle.rtrb.specs.Ring.{received, SameConsumer}
 use Rattle.rounds.specs.Handled.{Went}
-use Rattle.pipeline.specs.Parcels.{blocks_of, packets_of, rounds_of, spares_of, weights_sent, CountsSpares, IsLeft}
+use Rattle.pipeline.specs.Parcels.{packets_of, rounds_of, spares_of, weights_sent, CountsSpares, IsLeft}
 use Rattle.pipeline.proofs.sides.work_rounds.Given as goal
 
 abbrev pub invariant-loop : goal.invariant-loop
@@ -12,7 +12,6 @@ invariant-loop g l = record {
   from : SameConsumer l.initial.from l.from;
   room : HasRoom 0 l.bench;
   bench : IsSameBench l.initial.bench l.bench;
-  each : home l.list + given_by l.giver ≡ blocks_of (received l.from) + given_by l.initial.giver;
   named : (h : ℕ → ℕ) → weighed h l.list.blocks + weights_given l.giver h ≡ weights_sent h (received l.from) + weights_given l.initial.giver h;
   lends : Lends l.initial.giver l.giver;
   left : IsLeft 0 l.list l.initial.giver l.giver;

@@ -1,11 +1,6 @@
 use Rattle.rounds.proofs.Lending.{leaves_no_spare, went}
 use Rattle.rounds.proofs.giving.give_list.Goals as goal
 
-pub returns-clause-sum : goal.returns-clause-sum
-returns-clause-sum g c =
-    (went c.args.giver.now c.swap_list.new.giver c.give.new.giver c.swap_list-2.new.giver c.args.list.now c.swap_list.new.list c.swap_list-2.new.list c.requires.lent
-    c.swap_list.ensures.swapped c.give.ensures.gave c.swap_list-2.ensures.swapped).count
-
 pub returns-clause-named : goal.returns-clause-named
 returns-clause-named g c =
     (went c.args.giver.now c.swap_list.new.giver c.give.new.giver c.swap_list-2.new.giver c.args.list.now c.swap_list.new.list c.swap_list-2.new.list c.requires.lent

@@ -1,11 +1,11 @@
-use Rattle.std.proofs.Common.{◌≡◌, ◌∙◌, ◌+◌, ◌≤◌, ℕ, [], ap, refl, sym, subst, arith}
+use Rattle.std.proofs.Common.{◌≡◌, ◌∙◌, ◌+◌, ◌≤◌, ℕ, [], ap, length, refl, sym, subst, arith}
 use Rattle.std.proofs.Math.Nat.{le_refl}
 use Rattle.block_pool.specs.Listed.{blocks_in}
 use Rattle.block_pool.specs.PassState.{PassState, IsHome, IsOwn}
 use Rattle.block_pool.specs.PoolState.{PoolState, home, weighed}
 use Rattle.rounds.specs.RoundsState.{IntakeState}
 use Rattle.block_supply.specs.Lists.{weights_listed}
-use Rattle.block_supply.proofs.Listing.{listed_last, taken_all, taken_least, weights_listed_last, weights_taken_all}
+use Rattle.block_supply.proofs.Listing.{listed_last, ones, taken_least, weights_listed_last, weights_taken_all}
 use Rattle.rounds.proofs.lists.drain.Goals as goal
 
 pub bring_in-requires : goal.bring_in-requires
@@ -17,7 +17,9 @@ bring_in-requires g c =
     record {
       room = omega (
         arith,
-        i.sum,
+        i.named (λ _. 1),
+        ones l.intake.stock,
+        ones c.args.intake.now.stock,
         c.requires.room,
         ap (λ (s : IntakeState). s.blocks) i.same,
         taken_least c.take.new.pass here.result (ap (λ (p : PassState PoolState). p.made) took ∙ i.made) here.ensures.blocks,
@@ -38,22 +40,12 @@ loop-waiting-preserved g c =
     let here = c.home-waiting-in-loop-waiting in
     let is = here.ensures.same ∙ c.in-Ok.ensures.taken in
     let brought = c.bring_in.ensures.home in
-    let all = l.intake.home + home c.into_pool.result in
     record {
       own = (ap (λ (p : PassState PoolState). p.pool) is ∙ i.own.0, ap (λ (p : PassState PoolState). p.size) is ∙ i.own.1);
       parts = ap (λ (p : PassState PoolState). p.parts) is ∙ i.parts;
       made = ap (λ (p : PassState PoolState). p.made) is ∙ i.made;
       put = ap (λ (p : PassState PoolState). p.put) is ∙ i.put;
-      same = brought ∙ ap (λ (s : IntakeState). record s { home = all; stock = c.bring_in.new.self.stock }) i.same
-          ∙ ap (λ (n : ℕ). record c.args.intake.now { home = n; stock = c.bring_in.new.self.stock }) (sym (ap (λ (s : IntakeState). s.home) brought));
-      sum = omega (
-        arith,
-        i.sum,
-        ap (λ (s : IntakeState). s.home) brought,
-        ap (λ (p : PassState PoolState). blocks_in p.taken) is,
-        listed_last l.pass.taken c.in-Ok.list,
-        ap home c.into_pool.ensures.value,
-      );
+      same = brought.0 ∙ ap (λ (s : IntakeState). record s { stock = c.bring_in.new.self.stock }) i.same;
       named = λ h. omega (
         arith,
         i.named h,
@@ -62,7 +54,7 @@ loop-waiting-preserved g c =
         weights_listed_last h l.pass.taken c.in-Ok.list,
         ap (λ (p : PoolState). weighed h p.blocks) c.into_pool.ensures.value,
       );
-      rises = omega (arith, i.rises, ap (λ (s : IntakeState). s.home) brought);
+      rises = omega (arith, i.rises, brought.1);
       count = omega (
         arith,
         here.ensures.count,
@@ -86,20 +78,11 @@ loop-waiting-init g c =
       made = subst (λ (p : PassState PoolState). p.made ≡ []) e c.requires.made;
       put = refl;
       same = refl;
-      sum = refl;
       named = λ h. refl;
-      rises = le_refl c.args.intake.now.home;
+      rises = le_refl (length c.args.intake.now.stock);
       count = subst (λ (p : PassState PoolState). n + p.takes ≡ lists.made + p.puts) e c.home-waiting.ensures.count;
       here = subst (λ (p : PassState PoolState). IsHome p n) e c.home-waiting.ensures.blocks;
     }
-
-pub returns-clause-home : goal.returns-clause-home
-returns-clause-home g c =
-    let l = c.loop-waiting in
-    let i = l.invariant in
-    let same = c.home-waiting.ensures.same in
-    let all = taken_all l.pass l.waiting (le-zero c.loop-waiting-test.false) i.made i.here ∙ ap blocks_in i.put ∙ ap (λ (p : PassState PoolState). blocks_in p.put) same in
-    ap (λ (p : PassState PoolState). l.intake.home + blocks_in p.taken) (sym same) ∙ i.sum ∙ ap (λ (n : ℕ). c.args.intake.now.home + n) all
 
 pub returns-clause-named : goal.returns-clause-named
 returns-clause-named g c = λ h.
@@ -108,3 +91,11 @@ returns-clause-named g c = λ h.
     let same = c.home-waiting.ensures.same in
     let all = weights_taken_all h l.pass l.waiting (le-zero c.loop-waiting-test.false) i.made i.here ∙ ap (weights_listed h) i.put ∙ ap (λ (p : PassState PoolState). weights_listed h p.put) same in
     ap (λ (p : PassState PoolState). weighed h l.intake.stock + weights_listed h p.taken) (sym same) ∙ i.named h ∙ ap (λ (n : ℕ). weighed h c.args.intake.now.stock + n) all
+
+pub returns-clause-home : goal.returns-clause-home
+returns-clause-home g c =
+    let l = c.loop-waiting in
+    let i = l.invariant in
+    let same = c.home-waiting.ensures.same in
+    let all = weights_taken_all (λ _. 1) l.pass l.waiting (le-zero c.loop-waiting-test.false) i.made i.here ∙ ap blocks_in i.put ∙ ap (λ (p : PassState PoolState). blocks_in p.put) same in
+    omega (arith, ap (λ (p : PassState PoolState). blocks_in p.taken) same, i.named (λ _. 1), ones l.intake.stock, ones c.args.intake.now.stock, all)

@@ -1,5 +1,4 @@
-use Rattle.std.proofs.Common.{◌≡◌, ℕ, ◌+◌, ◌≤◌, []}
-use Rattle.block_pool.specs.Listed.{blocks_in}
+use Rattle.std.proofs.Common.{◌≡◌, ℕ, ◌+◌, ◌≤◌, [], length}
 use Rattle.block_pool.specs.PassState.{IsHome, IsOwn}
 use Rattle.block_pool.specs.PoolState.{weighed}
 use Rattle.block_supply.specs.Lists.{weights_listed}
@@ -11,10 +10,9 @@ invariant-loop-waiting g l = record {
   parts : l.pass.parts ≡ 65536;
   made : l.pass.made ≡ [];
   put : l.pass.put ≡ l.initial.pass.put;
-  same : l.intake ≡ record l.initial.intake { home = l.intake.home; stock = l.intake.stock };
-  sum : l.intake.home + blocks_in l.initial.pass.taken ≡ l.initial.intake.home + blocks_in l.pass.taken;
+  same : l.intake ≡ record l.initial.intake { stock = l.intake.stock };
   named : (h : ℕ → ℕ) → weighed h l.intake.stock + weights_listed h l.initial.pass.taken ≡ weighed h l.initial.intake.stock + weights_listed h l.pass.taken;
-  rises : l.initial.intake.home ≤ l.intake.home;
+  rises : length l.initial.intake.stock ≤ length l.intake.stock;
   count : l.waiting + l.pass.takes ≡ l.lists.made + l.pass.puts;
   here : IsHome l.pass l.waiting;
 }

@@ -42,7 +42,7 @@ returns-clause-stepped g c =
         need = r.need;
         within = omega (arith, r.home);
         some = r.budget.0;
-        took = omega (arith, r.taken, ap (λ (x : RoundsState). x.taken) h.home);
+        took = omega (arith, r.taken, ap (λ (x : RoundsState). x.taken) h.home.0);
         later = r.later;
         failed = r.failed;
       };
@@ -63,11 +63,11 @@ returns-clause-rests g c =
     let r = c.read_round-read.ensures in
     let h = c.handle.ensures in
     record {
-      home = ap (λ (x : RoundsState). x.home) h.home ∙ r.home ∙ sym (ap (λ (x : RoundsState). x.blocks) h.home ∙ r.same.0);
-      same = (ap (λ (x : RoundsState). x.blocks) h.home ∙ r.same.0, ap options_of h.home ∙ r.same.1, ap (λ (x : RoundsState). x.keep) h.home ∙ r.same.2);
-      least = omega (arith, r.least, ap (λ (x : RoundsState). x.taken) h.home);
-      pauses = few_none _ _ _ _ (omega (arith, r.counts.0, ap (λ (x : RoundsState). x.empties) h.home)) (ap (λ (x : RoundsState). x.pauses) h.home ∙ r.counts.1);
-      gives = gave_none c.args.rounds.now.spares c.handle.new.self.spares (ap (λ (x : RoundsState). x.spares) h.home ∙ r.counts.2);
+      home = h.home.1 ∙ r.home ∙ sym (ap (λ (x : RoundsState). x.blocks) h.home.0 ∙ r.same.0);
+      same = (ap (λ (x : RoundsState). x.blocks) h.home.0 ∙ r.same.0, ap options_of h.home.0 ∙ r.same.1, ap (λ (x : RoundsState). x.keep) h.home.0 ∙ r.same.2);
+      least = omega (arith, r.least, ap (λ (x : RoundsState). x.taken) h.home.0);
+      pauses = few_none _ _ _ _ (omega (arith, r.counts.0, ap (λ (x : RoundsState). x.empties) h.home.0)) (ap (λ (x : RoundsState). x.pauses) h.home.0 ∙ r.counts.1);
+      gives = gave_none c.args.rounds.now.spares c.handle.new.self.spares (ap (λ (x : RoundsState). x.spares) h.home.0 ∙ r.counts.2);
       later = r.later;
     }
 

@@ -1,10 +1,8 @@
 use Rattle.std.proofs.Common.{◌∙◌, ap, arith}
-use Rattle.block_pool.specs.Listed.{blocks_in}
 use Rattle.block_pool.specs.PassState.{PassState}
-use Rattle.block_pool.specs.PoolState.{PoolState, home, weighed}
+use Rattle.block_pool.specs.PoolState.{PoolState, weighed}
 use Rattle.block_supply.specs.Lists.{weights_listed}
-use Rattle.block_supply.proofs.Listing.{listed_last, weights_listed_last}
-use Rattle.block_supply.proofs.Listing.{weighed_none}
+use Rattle.block_supply.proofs.Listing.{weighed_none, weights_listed_last}
 use Rattle.block_supply.proofs.taker.Taker.bring.Goals as goal
 
 pub invariant_of-self-2 : goal.invariant_of-self-2
@@ -18,13 +16,6 @@ invariant_of-self-2 g c =
         ap (λ (p : PassState PoolState). p.made) took ∙ old.alone.1,
         ap (λ (p : PassState PoolState). p.put) took ∙ old.alone.2,
       );
-      counted = omega (
-        arith,
-        ap (λ (p : PassState PoolState). blocks_in p.taken) took,
-        listed_last old.pass.taken c.in-Ok.list,
-        ap home c.replace-none.ensures.after,
-        ap home c.into_pool.ensures.value,
-      );
       weighs = λ h. omega (
         arith,
         ap (λ (p : PassState PoolState). weights_listed h p.taken) took,
@@ -33,21 +24,6 @@ invariant_of-self-2 g c =
         ap (λ (p : PoolState). weighed h p.blocks) c.into_pool.ensures.value,
       );
     }
-
-pub returns-clause-sum : goal.returns-clause-sum
-returns-clause-sum g c =
-    let old = c.args.self.now in
-    omega (
-      arith,
-      c.put_left-2.ensures.sum,
-      old.counted,
-      c.if-home-gt0.false,
-      c.home.ensures.home,
-      ap (λ (p : PassState PoolState). blocks_in p.taken) c.in-Ok.ensures.taken,
-      listed_last old.pass.taken c.in-Ok.list,
-      ap home c.replace-none.ensures.after,
-      ap home c.into_pool.ensures.value,
-    )
 
 pub returns-clause-named : goal.returns-clause-named
 returns-clause-named g c h =

@@ -7,4 +7,14 @@ pub returns-clause-sum : goal.returns-clause-sum
 returns-clause-sum g c =
     let r = c.read_beside-read in
     let left = r.new.more.pool.blocks in
-    omega (arith, r.ensures.sum, r.new.more.weighs (λ _. 1), ones left, ones c.args.pool.blocks, ap (weighed (λ _. 1)) c.requires.stock)
+    omega (
+      arith,
+      r.ensures.named (λ _. 1),
+      c.blocks-2.ensures.weighs,
+      r.new.more.weighs (λ _. 1),
+      ones left,
+      ones c.args.pool.blocks,
+      ap (weighed (λ _. 1)) c.requires.stock,
+      ones c.args.intake.now.stock,
+      ones r.new.self.stock,
+    )

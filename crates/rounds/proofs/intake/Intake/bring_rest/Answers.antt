@@ -1,5 +1,5 @@
 use Rattle.std.proofs.lemmas.Bool.{false≢true}
-use Rattle.std.proofs.Common.{◌+◌, ◌-◌, ◌^◌, min, ap, arith, refl, rules, ◌∙◌, subst}
+use Rattle.std.proofs.Common.{◌+◌, ◌-◌, ◌^◌, min, ap, arith, length, refl, rules, ◌∙◌, subst}
 use Rattle.block_supply.proofs.Listing.{home_by_ones}
 use Rattle.block_pool.specs.PoolState.{home, weighed}
 use Rattle.rounds.specs.RoundOf.{brought_by, Came}
@@ -23,7 +23,7 @@ loop-init g c =
     let pool = c.self.inside.pool in
     let same : Came from from (home pool) (home pool) (λ h. weighed h pool.blocks) (λ h. weighed h pool.blocks) = record { sum = refl; named = λ h. refl; asked = omega arith } in
     record {
-      came = subst (λ (s : IntakeState). Came from from s.home (home pool) (λ h. weighed h s.stock) (λ h. weighed h pool.blocks)) v same;
+      came = subst (λ (s : IntakeState). Came from from (length s.stock) (home pool) (λ h. weighed h s.stock) (λ h. weighed h pool.blocks)) v same;
       blocks = ap (λ (s : IntakeState). s.blocks) v;
       taken = ap (λ (s : IntakeState). s.taken) v;
       budget = ap (λ (s : IntakeState). s.budget) v;
@@ -42,7 +42,7 @@ loop-preserved g c =
     let step : Came from to (home c.self-in-loop.inside.pool) (home b.new.pool) (λ h. weighed h c.self-in-loop.inside.pool.blocks) (λ h. weighed h b.new.pool.blocks) =
     record { sum = home_by_ones _ _ c.self-in-loop.inside.pool.blocks b.new.pool.blocks (b.ensures.named (λ _. 1)); named = b.ensures.named; asked = b.ensures.asked } in
     record {
-      came = came_then _ _ _ _ _ _ _ _ _ i.came (subst (λ (s : IntakeState). Came from to s.home (home b.new.pool) (λ h. weighed h s.stock) (λ h. weighed h b.new.pool.blocks)) v step);
+      came = came_then _ _ _ _ _ _ _ _ _ i.came (subst (λ (s : IntakeState). Came from to (length s.stock) (home b.new.pool) (λ h. weighed h s.stock) (λ h. weighed h b.new.pool.blocks)) v step);
       blocks = b.ensures.same.0 ∙ ap (λ (s : IntakeState). s.blocks) v ∙ i.blocks;
       taken = b.ensures.same.1 ∙ ap (λ (s : IntakeState). s.taken) v ∙ i.taken;
       budget = ap (λ (s : IntakeState). s.budget) v ∙ i.budget;
