@@ -8,6 +8,7 @@ use Rattle.std.proofs.lemmas.List.Sums.{sum_by-cons}
 use Rattle.maximal_runs.specs.Cut.{AllNeighbours, cut_of}
 use Rattle.maximal_runs.specs.Items.{first_number}
 use Rattle.pcap_io.specs.Capture.{Packet}
+use Rattle.offload_model.specs.Mergeable.{up_to}
 use Rattle.offload_model.specs.Captured.{IsCaptured}
 use Rattle.offload_model.specs.Rounds.{Spread, is_queued, is_of, key_in, number_of, items_of}
 use Rattle.offload_model.specs.Tests.{is_mergeable_within}
@@ -63,8 +64,8 @@ begins_at n runs = all_of (λ run. (first_number number_of run == n) ≡ true) (
 few_items : (segs : ℕ) (spread : Spread) (q : ℕ) (ps : List Packet) → AllNeighbours (λ p q. p.number < q.number) ps → length (items_of segs spread q ps) ≤ length (filter (is_queued spread q) ps)
 few_items segs spread q ps rising =
     let xs = filter (is_queued spread q) ps in
-    few_pieces (λ x. filter (λ run. first_number number_of run == number_of x) (cut_of (is_mergeable_within segs) (filter (is_of (key_in x)) xs))) (first_number number_of) number_of xs
-    (λ x. begins_at (number_of x) (cut_of (is_mergeable_within segs) (filter (is_of (key_in x)) xs))) (items_are segs spread q ps rising).ordered
+    few_pieces (λ x. filter (λ run. first_number number_of run == number_of x) (cut_of (is_mergeable_within (up_to segs)) (filter (is_of (key_in x)) xs))) (first_number number_of) number_of xs
+    (λ x. begins_at (number_of x) (cut_of (is_mergeable_within (up_to segs)) (filter (is_of (key_in x)) xs))) (items_are segs spread q ps rising).ordered
 
 -- ---- windows
 

@@ -6,7 +6,7 @@ use Rattle.std.proofs.lemmas.List.Elements.{filter-append}
 use Rattle.maximal_runs.specs.Items.{begins_in, AreItems}
 use Rattle.frame_layout.specs.Key.{key_eq, key_of}
 use Rattle.pcap_io.specs.Capture.{Packet}
-use Rattle.offload_model.specs.Mergeable.{IsMergeableWithin}
+use Rattle.offload_model.specs.Mergeable.{up_to, IsMergeableWithin}
 use Rattle.offload_model.specs.Rounds.{Spread, is_of, is_queued, number_of, items_of}
 use Rattle.offload_model.specs.Captured.{IsCaptured, AreCaptured}
 use Rattle.offload_model.proofs.Lists.{all_filtered, one_of_range}
@@ -113,7 +113,7 @@ queue_items segs queues q ps c = all_items (filter (is_queued queues q) ps) (ite
 
 pub queue_size : (segs : ℕ) (queues : Spread) (q : ℕ) (ps : List Packet) → AreCaptured ps → sizes (items_of segs queues q ps) ≡ length (filter (is_queued queues q) ps)
 queue_size segs queues q ps c =
-    let i : AreItems (IsMergeableWithin segs) is_of number_of (filter (is_queued queues q) ps) (items_of segs queues q ps) = items_are segs queues q ps c.rising in
+    let i : AreItems (IsMergeableWithin (up_to segs)) is_of number_of (filter (is_queued queues q) ps) (items_of segs queues q ps) = items_are segs queues q ps c.rising in
     same_size (length (filter (is_queued queues q) ps)) (filter (is_queued queues q) ps) (items_of segs queues q ps) (omega arith) i.full (λ k. (i.flows k).joined)
 
 -- ---- of all queues
@@ -127,7 +127,7 @@ module _ (key : Option (List ℕ)) where
       → of_flow key (flat_map (λ q. items_of segs queues q ps) qs) ≡ flat_map (λ q. filter (is_of key) (filter (is_queued queues q) ps)) qs
   each_queue segs queues ps [] c = refl
   each_queue segs queues ps (q ∷ qs) c =
-      let i : AreItems (IsMergeableWithin segs) is_of number_of (filter (is_queued queues q) ps) (items_of segs queues q ps) = items_are segs queues q ps c.rising in
+      let i : AreItems (IsMergeableWithin (up_to segs)) is_of number_of (filter (is_queued queues q) ps) (items_of segs queues q ps) = items_are segs queues q ps c.rising in
       ap (flat_map (λ (run : List Packet). run)) (filter-append (begins_in (is_of key)) (items_of segs queues q ps) (flat_map (λ q. items_of segs queues q ps) qs))
       ∙ flat_map-append (λ (run : List Packet). run) (filter (begins_in (is_of key)) (items_of segs queues q ps)) (filter (begins_in (is_of key)) (flat_map (λ q. items_of segs queues q ps) qs))
       ∙ ap (λ (z : List Packet). z ++ of_flow key (flat_map (λ q. items_of segs queues q ps) qs)) (i.flows key).joined

@@ -12,7 +12,7 @@ use Rattle.frame_layout.specs.Key.{key_eq, key_of}
 use Rattle.pcap_io.specs.Capture.{Packet}
 use Rattle.offload_model.specs.Captured.{AreCaptured, content}
 use Rattle.offload_model.specs.Merged.{Merged, merged_of}
-use Rattle.offload_model.specs.Mergeable.{IsMergeableWithin}
+use Rattle.offload_model.specs.Mergeable.{up_to, IsMergeableWithin}
 use Rattle.offload_model.specs.Rounds.{Spread, is_of, is_queued, number_of, items_of}
 use Rattle.offload_model.proofs.Flows.{IsItem, own_queue, other_queue}
 use Rattle.offload_model.proofs.Items.{key_eq_self, key_eq_same, items_are}
@@ -111,7 +111,7 @@ queue_left : (segs : ℕ) (spread : Spread) (q : ℕ) (ps : List Packet) → Are
 queue_left segs spread q ps c k = by (spread k == q) refl
   where
     joined : of_flow k (items_of segs spread q ps) ≡ filter (is_of k) (filter (is_queued spread q) ps)
-    joined = let i : AreItems (IsMergeableWithin segs) is_of number_of (filter (is_queued spread q) ps) (items_of segs spread q ps) = items_are segs spread q ps c.rising in (i.flows k).joined
+    joined = let i : AreItems (IsMergeableWithin (up_to segs)) is_of number_of (filter (is_queued spread q) ps) (items_of segs spread q ps) = items_are segs spread q ps c.rising in (i.flows k).joined
 
     by : (v : Bool) → (spread k == q) ≡ v → flows_of ps k ≡ of_flow k (items_of segs spread q ps) ++ elsewhere spread q ps k
     by true e =

@@ -2,20 +2,18 @@
 use Rattle.std.proofs.Common.{zero, suc, ◌≡◌, ℕ, ◌+◌, ◌-◌, ◌<◌, ◌≤◌, List, [], ◌∷◌}
 use Rattle.std.proofs.Common.{◌++◌, length, map, take, drop}
 use Rattle.std.proofs.Common.{set, get_or, inl, inr, refl, sym, ap, ◌∙◌, subst, arith}
-use Rattle.std.specs.List.{AllByRecursion, filter}
+use Rattle.std.specs.List.{AllByRecursion}
 use Rattle.std.proofs.lemmas.Bool.{cases_lt}
 use Rattle.std.proofs.lemmas.List.{append-nil, get_or_default, get_or-set_other, get_or-set_same, length-map}
 use Rattle.std.proofs.lemmas.List.{length-take-le, take-append-drop, get_or_append_left}
-use Rattle.maximal_runs.specs.Items.{AreItems}
 use Rattle.pcap_io.specs.Capture.{Packet}
+use Rattle.offload_model.specs.declared.limits.Limits.{Limits}
 use Rattle.offload_model.specs.Captured.{AreCaptured}
 use Rattle.offload_model.specs.CaptureLaws.{RunsComeBack}
-use Rattle.offload_model.specs.Mergeable.{IsMergeableWithin}
 use Rattle.offload_model.specs.Merged.{merged_of}
-use Rattle.offload_model.specs.Rounds.{is_of, is_queued, number_of, runs_in}
+use Rattle.offload_model.specs.Rounds.{runs_within}
 use Rattle.offload_model.proofs.Flows.{IsItem, all_items}
-use Rattle.offload_model.proofs.Items.{items_are}
-use Rattle.offload_model.proofs.OneQueue.{all_queued}
+use Rattle.offload_model.proofs.Items.{within_are}
 use Rattle.frame_runs.specs.declared.run.Run.{Run}
 use Rattle.frame_runs.specs.declared.engine.Engine.{Engine}
 use Rattle.frame_runs.specs.declared.lent.Lent.{Lent}
@@ -83,8 +81,8 @@ each_taken P (x ∷ xs) (y ∷ ys) h f = (
 
 -- ---- all that is said
 
-module _ (segs : ℕ) (ps : List Packet) (e : Engine) (next : List ℕ) (outs : List BurstRun)
-    (are : AreRuns ps (length ps) e) (runs : runs_of ps e ≡ runs_in segs ps)
+module _ (limits : Limits) (ps : List Packet) (e : Engine) (next : List ℕ) (outs : List BurstRun)
+    (are : AreRuns ps (length ps) e) (runs : runs_of ps e ≡ runs_within limits ps)
     (agree : (k : ℕ) → k < length ps → get_or e.next.items k 0 ≡ get_or next k 0)
     (room : length e.runs.items ≤ length outs)
     (told : (i : ℕ) (d : Run) (o : BurstRun) → i < length e.runs.items
@@ -105,8 +103,8 @@ module _ (segs : ℕ) (ps : List Packet) (e : Engine) (next : List ℕ) (outs : 
         → Says (get_or outs i o) (frames_of ps next (get_or outs i o))
     says_at i o d h = subst (Says (get_or outs i o)) (sym (frames_at i o d h)) (told i d o h).says
 
-    pub merged : (n : ℕ) → n ≡ length e.runs.items → Merges segs ps next (take n outs)
-    merged n same = subst (λ (z : ℕ). Merges segs ps next (take z outs)) (sym same) (record {
+    pub merged : (n : ℕ) → n ≡ length e.runs.items → Merges limits ps next (take n outs)
+    merged n same = subst (λ (z : ℕ). Merges limits ps next (take z outs)) (sym same) (record {
       runs = pairwise (frames_of ps next) (run_of ps e.next.items) outs e.runs.items room frames_at ∙ runs;
       each = each_taken (λ r. Says r (frames_of ps next r)) outs e.runs.items room says_at;
       once = λ f. ap (index_sums f) (pairwise (indices_of next) (indices e.next.items) outs e.runs.items room same_at)
@@ -192,16 +190,9 @@ all_mapped : {A B : Type 0} (P : B → Type 0) (F : A → B) (xs : List A) → A
 all_mapped P F [] a = tt
 all_mapped P F (x ∷ xs) a = (a.0, all_mapped P F xs a.1)
 
-pub items_in : (segs : ℕ) (ps : List Packet) → AreCaptured ps
-    → AreItems (IsMergeableWithin segs) is_of number_of ps (runs_in segs ps)
-items_in segs ps c =
-    let all : filter (is_queued (λ key. 0) 0) ps ≡ ps = all_queued (λ key. 0) ps (λ key. omega arith) in
-    subst (λ (z : List Packet). AreItems (IsMergeableWithin segs) is_of number_of z (runs_in segs z)) all
-    (items_are segs (λ key. 0) 0 ps c.rising)
-
-pub all_come_back : (segs : ℕ) (ps : List Packet) (next : List ℕ) (told : List BurstRun) → RunsComeBack
-    → Merges segs ps next told → AreCaptured ps → AllByRecursion (λ r. ComesBack (frames_of ps next r)) told
-all_come_back segs ps next told law m c =
+pub all_come_back : (limits : Limits) (ps : List Packet) (next : List ℕ) (told : List BurstRun) → RunsComeBack
+    → Merges limits ps next told → AreCaptured ps → AllByRecursion (λ r. ComesBack (frames_of ps next r)) told
+all_come_back limits ps next told law m c =
     all_mapped ComesBack (frames_of ps next) told
     (subst (AllByRecursion ComesBack) (sym m.runs)
-    (all_back law (runs_in segs ps) (all_items ps (runs_in segs ps) c.each (items_in segs ps c))))
+    (all_back law (runs_within limits ps) (all_items ps (runs_within limits ps) c.each (within_are limits ps c.rising))))

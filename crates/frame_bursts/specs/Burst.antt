@@ -4,10 +4,11 @@ use Rattle.std.specs.Prelude.{List, ◌∷◌, ◌++◌, length, map, take, slic
 use Rattle.std.specs.List.{AllByRecursion}
 use Rattle.pcap_io.specs.Capture.{Packet}
 use Rattle.offload_model.specs.Merged.{frame_at, merged_of}
-use Rattle.offload_model.specs.Rounds.{runs_in}
+use Rattle.offload_model.specs.Rounds.{runs_within}
 use Rattle.offload_model.specs.Written.{head_of, record_of}
 use Rattle.offload_model.specs.Segments.{segments_of}
 use Rattle.offload_model.specs.Captured.{AreCaptured, content}
+use Rattle.offload_model.specs.declared.limits.Limits.{Limits}
 use Rattle.frame_runs.specs.declared.lent.Lent.{Lent}
 use Rattle.frame_runs.specs.declared.run.Run.{Run}
 use Rattle.frame_runs.specs.Chains.{chain_of, packet_at, run_of, AreSharedOut}
@@ -23,8 +24,8 @@ abbrev pub AreFrames : List Lent → Type 0
 AreFrames frames = AreCaptured (map packet_of frames)
 
 -- what is merged: frames of a capture, not too many, into runs of a length that may be asked for
-pub record AreLawful (most : ℕ) (fs : List Lent) : Type 0 where
-  pub segs : (1 ≤ most) × (most ≤ 4096)
+pub record AreLawful (limits : Limits) (fs : List Lent) : Type 0 where
+  pub segs : (1 ≤ limits.segs) × (limits.segs ≤ 4096)
   pub few : length fs ≤ 65535
   pub frames : AreFrames fs
 
@@ -33,11 +34,11 @@ abbrev pub HasRoom : ℕ → ℕ → ℕ → Type 0
 HasRoom n next runs = (n ≤ next) × (n ≤ runs)
 
 -- when each refusal comes
-abbrev pub Refuses : ℕ → List Lent → ℕ → ℕ → Refused → Type 0
-Refuses segs frames next runs Usage = AreLawful segs frames → ⊥
-Refuses segs frames next runs Full = ⊥
-Refuses segs frames next runs NoMemory = AreLawful segs frames × HasRoom (length frames) next runs
-Refuses segs frames next runs NoRoom = AreLawful segs frames × ((next < length frames) ⊎ (runs < length frames))
+abbrev pub Refuses : Limits → List Lent → ℕ → ℕ → Refused → Type 0
+Refuses limits frames next runs Usage = AreLawful limits frames → ⊥
+Refuses limits frames next runs Full = ⊥
+Refuses limits frames next runs NoMemory = AreLawful limits frames × HasRoom (length frames) next runs
+Refuses limits frames next runs NoRoom = AreLawful limits frames × ((next < length frames) ⊎ (runs < length frames))
 
 -- what is said of a run
 pub record Says (r : BurstRun) (run : List Packet) : Type 0 where
@@ -65,10 +66,10 @@ indices_of next r = r.first ∷ chain_of next (r.n - 1) (slice_index_or next r.f
 abbrev pub frames_of : List Packet → List ℕ → BurstRun → List Packet
 frames_of ps next r = map (packet_at ps) (indices_of next r)
 
--- the runs are the maximal mergeable runs of each flow, in the order of their first frames, and what is said of each is
+-- the runs are the maximal mergeable runs within limits of each flow, in the order of their first frames, and what is said of each is
 -- so; each frame is in one of them, once
-pub record Merges (segs : ℕ) (ps : List Packet) (next : List ℕ) (told : List BurstRun) : Type 0 where
-  pub runs : map (frames_of ps next) told ≡ runs_in segs ps
+pub record Merges (limits : Limits) (ps : List Packet) (next : List ℕ) (told : List BurstRun) : Type 0 where
+  pub runs : map (frames_of ps next) told ≡ runs_within limits ps
   pub each : AllByRecursion (λ r. Says r (frames_of ps next r)) told
   pub once : AreSharedOut (length ps) (map (indices_of next) told)
 

@@ -7,6 +7,7 @@ ghost use Rattle.frame_bursts.specs.Burst.{AreLawful, HasRoom, Merges, ComesBack
 use crate::lawful::are_lawful;
 use crate::told::{BurstRun, put_merged};
 use frame_runs::{Engine, Lent};
+use offload_model::Limits;
 use std::alloc::Global;
 
 /// Why a burst isn't merged.
@@ -22,27 +23,27 @@ pub enum Refused {
     NoRoom,
 }
 
-/// Merges frames where they lie, into runs of at most `segs` (1 to 4096), and answers how many runs there are.
+/// Merges frames where they lie, into runs within limits (1 to 4096 frames), and answers how many runs there are.
 ///
 /// `next` and `runs` have room for as many entries as there are frames, at most 65,535. Each frame has at most 262,144
 /// bytes, an original length below 2^31, and a number above that of the frame before it.
 pub fn merge_burst(
     alloc: Global,
-    segs: u32,
+    limits: Limits,
     frames: &[Lent<'_>],
     next: &mut [u32],
     runs: &mut [BurstRun],
 ) -> Result<usize, Refused>
-    ensures merges { IfOk result (λ count. Merges segs (map packet_of frames.now) next.new (take count runs.new)) }
+    ensures merges { IfOk result (λ count. Merges limits (map packet_of frames.now) next.new (take count runs.new)) }
     ensures back { IfOk result (λ count. AllByRecursion
         (λ r. ComesBack (frames_of (map packet_of frames.now) next.new r)) (take count runs.new)) }
-    ensures lawful { IfOk result (λ count. AreLawful segs frames.now
+    ensures lawful { IfOk result (λ count. AreLawful limits frames.now
         × HasRoom (length frames.now) (length next.old) (length runs.old)) }
-    ensures refused { IfErr result (Refuses segs frames.now (length next.old) (length runs.old)) }
+    ensures refused { IfErr result (Refuses limits frames.now (length next.old) (length runs.old)) }
     ensures untouched { IfErr result (λ _. (next.new ≡ next.old) × (runs.new ≡ runs.old)) }
     ensures sizes { (length next.new ≡ length next.old) × (length runs.new ≡ length runs.old) }
 {
-    if !are_lawful(segs, frames) {
+    if !are_lawful(limits, frames) {
         return Err(Refused::Usage);
     }
     let n = frames.len();
@@ -52,6 +53,6 @@ pub fn merge_burst(
     let Ok(mut engine) = Engine::make(alloc, n as u32) else {
         return Err(Refused::NoMemory);
     };
-    engine.merge(frames, segs);
+    engine.merge(frames, limits);
     Ok(put_merged(&engine, frames, next, runs))
 }

@@ -12,9 +12,10 @@ use crate::burst::Refused;
 use crate::lawful::{are_frames, are_lawful};
 use crate::told::{BurstRun, put_merged};
 use frame_runs::{Engine, Lent};
+use offload_model::Limits;
 use std::alloc::Global;
 
-/// An engine for at most `limit` frames between two flushes, which makes runs of at most `segs`. The frames are the
+/// An engine for at most `limit` frames between two flushes, which makes runs within limits. The frames are the
 /// caller's: it has indices into their list.
 #[derive(Drop)]
 pub struct BurstEngine {
@@ -22,34 +23,35 @@ pub struct BurstEngine {
     /// How many frames it has received since the last flush.
     pub received: u32,
     pub limit: u32,
-    pub segs: u32,
+    pub limits: Limits,
 }
 
 /// The frames of a list from a place on, by an engine that has received those in front of it.
-fn receive_behind(engine: &mut Engine, frames: &[Lent<'_>], from: usize, segs: u32)
-    requires received { HasReceived segs (map packet_of frames.now) from engine.old }
+fn receive_behind(engine: &mut Engine, frames: &[Lent<'_>], from: usize, limits: Limits)
+    requires received { HasReceived limits (map packet_of frames.now) from engine.old }
     requires places { HasPlaces engine.old (length frames.now - from) }
     requires short { AllByRecursion IsShort frames.now }
     requires rising { DoRise (map packet_of frames.now) }
     requires few { length frames.now < 2 ^ 32 }
     requires inside { from ≤ length frames.now }
-    ensures received { HasReceived segs (map packet_of frames.now) (length frames.now) engine.new }
+    ensures received { HasReceived limits (map packet_of frames.now) (length frames.now) engine.new }
     ensures places { (n : ℕ) → HasPlaces engine.old (length frames.now - from + n) → HasPlaces engine.new n }
     ensures linked { length engine.new.next.items ≡ length engine.old.next.items }
 {
     for i in from..frames.len() {
-        engine.receive(frames, i as u32, segs);
+        engine.receive(frames, i as u32, limits);
     }
 }
 
 impl BurstEngine {
-    /// An engine for at most `limit` frames (0 to 65,535) between two flushes, in runs of at most `segs` (1 to 4096).
+    /// An engine for at most `limit` frames (0 to 65,535) between two flushes, in runs within limits (1 to 4096
+    /// frames).
     /// All memory is taken here.
-    pub fn make(alloc: Global, limit: u32, segs: u32) -> Result<BurstEngine, Refused>
-        ensures made { IfOk result (λ g. Holds [] g × IsFor limit segs g) }
-        ensures refused { IfErr result (RefusesMaking limit segs) }
+    pub fn make(alloc: Global, limit: u32, limits: Limits) -> Result<BurstEngine, Refused>
+        ensures made { IfOk result (λ g. Holds [] g × IsFor limit limits g) }
+        ensures refused { IfErr result (RefusesMaking limit limits) }
     {
-        if limit > 65_535 || !(1..=4096).contains(&segs) {
+        if limit > 65_535 || !(1..=4096).contains(&limits.segs) {
             return Err(Refused::Usage);
         }
         let Ok(engine) = Engine::make(alloc, limit) else {
@@ -59,7 +61,7 @@ impl BurstEngine {
             engine,
             received: 0,
             limit,
-            segs,
+            limits,
         })
     }
 
@@ -70,7 +72,7 @@ impl BurstEngine {
         requires room { length frames.now ≤ self.old.limit }
         ensures begun { IsTrue result → Awaits (map packet_of frames.now) self.new }
         ensures none { IsTrue result ⊎ (self.old.received ≡ 0) }
-        ensures same { (self.new.received ≡ self.old.received) × IsFor self.old.limit self.old.segs self.new }
+        ensures same { (self.new.received ≡ self.old.received) × IsFor self.old.limit self.old.limits self.new }
     {
         if self.received > 0 {
             return true;
@@ -83,7 +85,7 @@ impl BurstEngine {
     pub fn receive(&mut self, frames: &[Lent<'_>]) -> Result<(), Refused>
         requires holds { HoldsFront frames.now self.old }
         ensures received { IfOk result (λ _. Holds (map packet_of frames.now) self.new) }
-        ensures numbers { IsFor self.old.limit self.old.segs self.new }
+        ensures numbers { IsFor self.old.limit self.old.limits self.new }
         ensures refused { IfErr result (RefusesMore frames.now self.old) }
         ensures stays { IfErr result (λ _. Stays self.old self.new) }
     {
@@ -98,7 +100,7 @@ impl BurstEngine {
         if !self.begin(frames) {
             return Err(Refused::NoMemory);
         }
-        receive_behind(&mut self.engine, frames, from, self.segs);
+        receive_behind(&mut self.engine, frames, from, self.limits);
         self.received = n as u32;
         Ok(())
     }
@@ -113,11 +115,11 @@ impl BurstEngine {
     ) -> Result<usize, Refused>
         requires holds { HoldsAll frames.now self.old }
         ensures merges { IfOk result
-            (λ count. Merges self.old.segs (map packet_of frames.now) next.new (take count runs.new)) }
+            (λ count. Merges self.old.limits (map packet_of frames.now) next.new (take count runs.new)) }
         ensures back { IfOk result (λ count. AllByRecursion
             (λ r. ComesBack (frames_of (map packet_of frames.now) next.new r)) (take count runs.new)) }
         ensures none { IfOk result (λ _. Holds [] self.new) }
-        ensures numbers { IsFor self.old.limit self.old.segs self.new }
+        ensures numbers { IsFor self.old.limit self.old.limits self.new }
         ensures refused { IfErr result (RefusesFlush frames.now self.old (length next.old) (length runs.old)) }
         ensures untouched { IfErr result
             (λ _. (self.new ≡ self.old) × ((next.new ≡ next.old) × (runs.new ≡ runs.old))) }
@@ -147,7 +149,7 @@ impl BurstEngine {
         runs: &mut [BurstRun],
     ) -> Result<usize, Refused>
         ensures merges { IfOk result
-            (λ count. Merges self.old.segs (map packet_of frames.now) next.new (take count runs.new)) }
+            (λ count. Merges self.old.limits (map packet_of frames.now) next.new (take count runs.new)) }
         ensures back { IfOk result (λ count. AllByRecursion
             (λ r. ComesBack (frames_of (map packet_of frames.now) next.new r)) (take count runs.new)) }
         ensures refused { IfErr result (RefusesBurst frames.now self.old (length next.old) (length runs.old)) }
@@ -156,7 +158,7 @@ impl BurstEngine {
         ensures sizes { (length next.new ≡ length next.old) × (length runs.new ≡ length runs.old) }
     {
         let n = frames.len();
-        if self.received > 0 || !are_lawful(self.segs, frames) {
+        if self.received > 0 || !are_lawful(self.limits, frames) {
             return Err(Refused::Usage);
         }
         if n > self.limit as usize {
@@ -168,7 +170,7 @@ impl BurstEngine {
         if self.engine.start(self.limit).is_err() {
             return Err(Refused::NoMemory);
         }
-        self.engine.merge(frames, self.segs);
+        self.engine.merge(frames, self.limits);
         Ok(put_merged(&self.engine, frames, next, runs))
     }
 }

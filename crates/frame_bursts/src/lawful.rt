@@ -8,6 +8,7 @@ ghost use Rattle.frame_runs.specs.declared.lent.Lent.{Lent as LentOf};
 ghost use Rattle.frame_bursts.specs.Burst.{AreLawful, AreFrames};
 
 use frame_runs::Lent;
+use offload_model::Limits;
 
 /// What no frame is longer than, in bytes.
 const MOST_FRAME: usize = 262_144;
@@ -60,9 +61,9 @@ pub(crate) fn are_frames(frames: &[Lent<'_>], from: usize) -> bool
     true
 }
 
-/// Whether a burst may be merged into runs of at most `segs`.
-pub(crate) fn are_lawful(segs: u32, frames: &[Lent<'_>]) -> bool
-    ensures lawful { Decides result (AreLawful segs frames.now) }
+/// Whether a burst may be merged into runs within limits.
+pub(crate) fn are_lawful(limits: Limits, frames: &[Lent<'_>]) -> bool
+    ensures lawful { Decides result (AreLawful limits frames.now) }
 {
-    (1..=4096).contains(&segs) && frames.len() <= 65_535 && are_frames(frames, 0)
+    (1..=4096).contains(&limits.segs) && frames.len() <= 65_535 && are_frames(frames, 0)
 }

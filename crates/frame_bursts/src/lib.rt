@@ -43,7 +43,8 @@
 //!         number: 1,
 //!     },
 //! ];
-//! let merged = merge_burst(alloc, 64, &frames, &mut next, &mut runs); // Ok(1): they are one run
+//! let limits = Limits::up_to(64);
+//! let merged = merge_burst(alloc, limits, &frames, &mut next, &mut runs); // Ok(1): they are one run
 //! ```
 //!
 //! Its parts: `lawful` (what a caller may pass), `places` (where a merged frame's last headers stand, and the sum of

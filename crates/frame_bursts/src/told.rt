@@ -4,7 +4,8 @@ ghost use Rattle.std.specs.Prelude.{ℕ, List, length, map, take, slice_index_or
 ghost use Rattle.std.specs.List.{AllByRecursion};
 ghost use Rattle.pcap_io.specs.Capture.{Packet};
 ghost use Rattle.offload_model.specs.Merged.{merged_of};
-ghost use Rattle.offload_model.specs.Rounds.{runs_in};
+ghost use Rattle.offload_model.specs.Rounds.{runs_within};
+ghost use Rattle.offload_model.specs.declared.limits.Limits.{Limits as LimitsOf};
 ghost use Rattle.frame_runs.specs.declared.run.Run.{Run as RunOf};
 ghost use Rattle.frame_runs.specs.Engine.{Knows, KnowsSome, AreRuns, runs_of};
 ghost use Rattle.frame_runs.specs.MergedRun.{headers_size, payloads_behind};
@@ -117,11 +118,11 @@ pub(crate) fn put_merged(
     requires are { AreRuns (map packet_of frames.now) (length frames.now) engine.now }
     requires captured { AreFrames frames.now }
     requires room { HasRoom (length frames.now) (length next.old) (length runs.old) }
-    ensures merges { (segs : ℕ)
-        → runs_of (map packet_of frames.now) engine.now ≡ runs_in segs (map packet_of frames.now)
-        → Merges segs (map packet_of frames.now) next.new (take result runs.new) }
-    ensures back { (segs : ℕ)
-        → runs_of (map packet_of frames.now) engine.now ≡ runs_in segs (map packet_of frames.now)
+    ensures merges { (limits : LimitsOf)
+        → runs_of (map packet_of frames.now) engine.now ≡ runs_within limits (map packet_of frames.now)
+        → Merges limits (map packet_of frames.now) next.new (take result runs.new) }
+    ensures back { (limits : LimitsOf)
+        → runs_of (map packet_of frames.now) engine.now ≡ runs_within limits (map packet_of frames.now)
         → AllByRecursion (λ r. ComesBack (frames_of (map packet_of frames.now) next.new r)) (take result runs.new) }
     ensures sizes { (length next.new ≡ length next.old) × (length runs.new ≡ length runs.old) }
 {

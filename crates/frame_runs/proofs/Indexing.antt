@@ -4,6 +4,7 @@ use Rattle.std.specs.Prelude.{if◌then◌else◌}
 use Rattle.std.proofs.lemmas.Bool.{cases_eq, cases_Bool}
 use Rattle.std.proofs.lemmas.List.{length-set, get_or-set_same, get_or-set_other, get_or_append_left, get_or_push, get_or_default}
 use Rattle.maximal_runs.specs.Items.{begins_in}
+use Rattle.offload_model.specs.declared.limits.Limits.{Limits}
 use Rattle.pcap_io.specs.Capture.{Packet}
 use Rattle.frame_layout.specs.Key.{key_eq, key_of}
 use Rattle.offload_model.specs.Mergeable.{IsMergeable, IsMergeableWithin}
@@ -128,8 +129,8 @@ module _ (look : Option (List ℕ) → Option ℕ) (rs : List (List Packet)) (ke
       at true shut = inl refl
       at false shut = inr (refl, subst IsShut (sym (get_or-set_same rs i (run ++ (x ∷ [])) [] own.0)) (shut refl))
 
-  pub takes_grows : (segs : ℕ) → key_of x.frame ≡ key → IsMergeableWithin segs (run ++ (x ∷ [])) → TakesPacket segs rs x grown
-  takes_grows segs k m = run_grows segs x key k rs i run is own m
+  pub takes_grows : (limits : Limits) → key_of x.frame ≡ key → IsMergeableWithin limits (run ++ (x ∷ [])) → TakesPacket limits rs x grown
+  takes_grows limits k m = run_grows limits x key k rs i run is own m
 
 -- ---- a packet opens a run
 
@@ -204,10 +205,10 @@ module _ (look next : Option (List ℕ) → Option ℕ) (rs : List (List Packet)
       at false shut = inr (refl, subst IsShut (sym (get_or_push rs (x ∷ []) [] (length rs) refl)) (shut refl))
 
   -- where the flow finds no run that takes the packet
-  pub takes_opens : (segs : ℕ) → ((i : ℕ) → look key ≡ Some i → IsMergeableWithin segs (get_or rs i [] ++ (x ∷ [])) → ⊥) → TakesPacket segs rs x opened
-  takes_opens segs not = run_opens segs x key is rs (index key).0 (index key).1.0 (λ i e m. at (index key).0 (index key).1.1 i e m)
+  pub takes_opens : (limits : Limits) → ((i : ℕ) → look key ≡ Some i → IsMergeableWithin limits (get_or rs i [] ++ (x ∷ [])) → ⊥) → TakesPacket limits rs x opened
+  takes_opens limits not = run_opens limits x key is rs (index key).0 (index key).1.0 (λ i e m. at (index key).0 (index key).1.1 i e m)
     where
-      at : (o : Option ℕ) → IsFound rs o (look key) → (i : ℕ) → o ≡ Some i → IsMergeableWithin segs (get_or rs i [] ++ (x ∷ [])) → ⊥
+      at : (o : Option ℕ) → IsFound rs o (look key) → (i : ℕ) → o ≡ Some i → IsMergeableWithin limits (get_or rs i [] ++ (x ∷ [])) → ⊥
       at None f i e m = absurd cc
       at (Some j) (inl f) i e m = not i (f ∙ e) m
       at (Some j) (inr f) i e m =

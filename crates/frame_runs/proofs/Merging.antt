@@ -8,6 +8,7 @@ use Rattle.std.proofs.lemmas.Bool.{cases_eq, cases_Bool}
 use Rattle.maximal_runs.specs.Items.{begins_in, first_number}
 use Rattle.maximal_runs.proofs.Pass.{all_append}
 use Rattle.frame_layout.specs.Key.{key_eq, key_of}
+use Rattle.offload_model.specs.declared.limits.Limits.{Limits}
 use Rattle.pcap_io.specs.Capture.{Packet}
 use Rattle.offload_model.specs.Mergeable.{IsMergeable, IsMergeableWithin}
 use Rattle.offload_model.specs.Rounds.{is_of, number_of}
@@ -29,11 +30,8 @@ use Rattle.frame_runs.proofs.Indexing.{found_last, own_last, index_grows, takes_
 use Rattle.frame_runs.proofs.Chains.{mark_same, once, last_counts, chain_apart, chain_grown, last_grown, totals_push, totals_set, one_of, two_of}
 use Rattle.std.proofs.lemmas.List.{get_or-set_other, take_more, take_all}
 use Rattle.maximal_runs.specs.Items.{AreItems}
-use Rattle.maximal_runs.proofs.Items.{unique_items}
-use Rattle.offload_model.specs.Rounds.{Spread, key_in, items_of, runs_in}
-use Rattle.offload_model.proofs.Fronts.{fronts_too}
-use Rattle.offload_model.proofs.Items.{items_are}
-use Rattle.offload_model.proofs.OneQueue.{all_queued, one_queue}
+use Rattle.offload_model.specs.Rounds.{runs_within}
+use Rattle.offload_model.proofs.Items.{within_alone}
 use Rattle.frame_runs.specs.Chains.{no_packet}
 use Rattle.frame_runs.specs.Engine.{HasReceived, DoRise, IsReady}
 
@@ -246,9 +244,9 @@ module _ (ps : List Packet) (i place : ℕ) (a b : Engine) (old new : Run) (runs
 
 -- ---- and its flow finds it as long as it is open
 
-module _ (segs : ℕ) (ps : List Packet) (i place : ℕ) (is_open : Bool) (a b : Engine) (found_at : Flows) (runs : AreRuns ps i a) (inside : place < length a.runs.items)
+module _ (limits : Limits) (ps : List Packet) (i place : ℕ) (is_open : Bool) (a b : Engine) (found_at : Flows) (runs : AreRuns ps i a) (inside : place < length a.runs.items)
     (g : Grows ps i place is_open a b) (key : Option (List ℕ)) (k : key_of (packet_at ps i).frame ≡ key) (found : place_of ps a.flows key ≡ Some place)
-    (m : IsMergeableWithin segs (get_or (runs_of ps a) place [] ++ (packet_at ps i ∷ []))) (flows : AreFlows ps found_at)
+    (m : IsMergeableWithin limits (get_or (runs_of ps a) place [] ++ (packet_at ps i ∷ []))) (flows : AreFlows ps found_at)
     (puts : Puts ps a.flows key (if is_open then Some place else None) found_at)
     (room : (n : ℕ) → HasRoom a.flows (n + 1) → HasRoom found_at n) where
   abbrev after : Engine
@@ -270,7 +268,7 @@ module _ (segs : ℕ) (ps : List Packet) (i place : ℕ) (is_open : Bool) (a b :
   begins_more [] e = absurd cc
   begins_more (y ∷ r) e = e
 
-  pub taken : Takes segs ps i a after
+  pub taken : Takes limits ps i a after
   taken = record {
     runs = record {
       each = g.each;
@@ -284,8 +282,8 @@ module _ (segs : ℕ) (ps : List Packet) (i place : ℕ) (is_open : Bool) (a b :
           (ap (begins_in (is_of key)) now_there ∙ begins_more run (last.1 []))
           (puts key ∙ ap (λ (b : Bool). if b then (if is_open then Some place else None) else place_of ps a.flows key) (keys_equiv.refl key));
     };
-    takes = subst (TakesPacket segs (runs_of ps a) (packet_at ps i)) (sym g.runs)
-        (takes_grows (place_of ps a.flows) (runs_of ps a) key place run (packet_at ps i) runs.index found refl segs k m);
+    takes = subst (TakesPacket limits (runs_of ps a) (packet_at ps i)) (sym g.runs)
+        (takes_grows (place_of ps a.flows) (runs_of ps a) key place run (packet_at ps i) runs.index found refl limits k m);
     early = subst (KeepsEarly (runs_of ps a) (packet_at ps i)) (sym g.runs) (early_grows (runs_of ps a) key place (packet_at ps i) run refl last);
     linked = g.linked;
     places = λ n h. (omega (arith, h.0, g.room.0, g.room.1), room n h.1);
@@ -293,7 +291,7 @@ module _ (segs : ℕ) (ps : List Packet) (i place : ℕ) (is_open : Bool) (a b :
 
 -- ---- a packet opens a run
 
-module _ (segs : ℕ) (ps : List Packet) (i : ℕ) (a b : Engine) (item : Run) (runs : AreRuns ps i a)
+module _ (limits : Limits) (ps : List Packet) (i : ℕ) (a b : Engine) (item : Run) (runs : AreRuns ps i a)
     (items : b.runs.items ≡ a.runs.items ++ (item ∷ [])) (next : b.next ≡ a.next) (here : i < length ps)
     (first_is : item.first ≡ i) (last_is : item.last ≡ i) (more_is : item.more ≡ 0)
     (knows : Knows item (packet_at ps i) [])
@@ -339,8 +337,8 @@ module _ (segs : ℕ) (ps : List Packet) (i : ℕ) (a b : Engine) (item : Run) (
       ∙ ap (sum_below f) (let s : suc i ≡ i + 1 = omega arith in s)
 
   opened_by : AreFlows ps b.flows → IsIndexOf (place_of ps b.flows) (runs_of ps a ++ ((x ∷ []) ∷ []))
-      → TakesPacket segs (runs_of ps a) x (runs_of ps a ++ ((x ∷ []) ∷ []))
-      → IsLatest (place_of ps b.flows) (runs_of ps a ++ ((x ∷ []) ∷ [])) b.last → Takes segs ps i a b
+      → TakesPacket limits (runs_of ps a) x (runs_of ps a ++ ((x ∷ []) ∷ []))
+      → IsLatest (place_of ps b.flows) (runs_of ps a ++ ((x ∷ []) ∷ [])) b.last → Takes limits ps i a b
   opened_by flows index takes latest = record {
     runs = record {
       each = each;
@@ -350,7 +348,7 @@ module _ (segs : ℕ) (ps : List Packet) (i : ℕ) (a b : Engine) (item : Run) (
       index = subst (IsIndexOf (place_of ps b.flows)) (sym packets) index;
       latest = subst (λ (z : List (List Packet)). IsLatest (place_of ps b.flows) z b.last) (sym packets) latest;
     };
-    takes = subst (TakesPacket segs (runs_of ps a) x) (sym packets) takes;
+    takes = subst (TakesPacket limits (runs_of ps a) x) (sym packets) takes;
     early = subst (KeepsEarly (runs_of ps a) x) (sym packets) (λ n a' b'. all_append (λ run. first_number number_of run < n) (runs_of ps a) ((x ∷ []) ∷ []) a' (b', tt));
     linked = ap (λ z. length z.items) next;
     places = places;
@@ -359,12 +357,12 @@ module _ (segs : ℕ) (ps : List Packet) (i : ℕ) (a b : Engine) (item : Run) (
   opens_at : (key : Option (List ℕ)) (j : ℕ) (is_open : Bool) → key_of x.frame ≡ key
       → j ≡ length a.runs.items → AreFlows ps b.flows
       → Puts ps a.flows key (if is_open then Some j else None) b.flows → (is_open ≡ false → IsShut (x ∷ []))
-      → ((l : ℕ) → place_of ps a.flows key ≡ Some l → IsMergeableWithin segs (get_or (runs_of ps a) l [] ++ (x ∷ [])) → ⊥)
-      → IsLatest (place_of ps b.flows) (runs_of ps a ++ ((x ∷ []) ∷ [])) b.last → Takes segs ps i a b
+      → ((l : ℕ) → place_of ps a.flows key ≡ Some l → IsMergeableWithin limits (get_or (runs_of ps a) l [] ++ (x ∷ [])) → ⊥)
+      → IsLatest (place_of ps b.flows) (runs_of ps a ++ ((x ∷ []) ∷ [])) b.last → Takes limits ps i a b
   opens_at key j is_open k e flows puts shut not latest = opened_by flows
       (index_opens (place_of ps a.flows) (place_of ps b.flows) (runs_of ps a) x key runs.index k j is_open
       (e ∙ sym (length-map a.runs.items (run_of ps a.next.items))) puts shut)
-      (takes_opens (place_of ps a.flows) (place_of ps b.flows) (runs_of ps a) x key runs.index k segs not)
+      (takes_opens (place_of ps a.flows) (place_of ps b.flows) (runs_of ps a) x key runs.index k limits not)
       latest
 
   latest_opened : (key : Option (List ℕ)) (j : ℕ) (is_open : Bool) → key_of x.frame ≡ key
@@ -380,8 +378,8 @@ module _ (segs : ℕ) (ps : List Packet) (i : ℕ) (a b : Engine) (item : Run) (
 
   pub opens_run : (key : Option (List ℕ)) (j : ℕ) → key_of x.frame ≡ key → j ≡ length a.runs.items → AreFlows ps b.flows
       → Puts ps a.flows key (if item.progress.is_open then Some j else None) b.flows
-      → ((l : ℕ) → place_of ps a.flows key ≡ Some l → IsMergeableWithin segs (get_or (runs_of ps a) l [] ++ (x ∷ [])) → ⊥)
-      → b.last ≡ (if item.progress.is_open then Some j else None) → Takes segs ps i a b
+      → ((l : ℕ) → place_of ps a.flows key ≡ Some l → IsMergeableWithin limits (get_or (runs_of ps a) l [] ++ (x ∷ [])) → ⊥)
+      → b.last ≡ (if item.progress.is_open then Some j else None) → Takes limits ps i a b
   opens_run key j k e flows puts not last =
       opens_at key j item.progress.is_open k e flows puts (λ s. shut_item item x [] knows s) not
       (latest_opened key j item.progress.is_open k e puts last)
@@ -389,11 +387,11 @@ module _ (segs : ℕ) (ps : List Packet) (i : ℕ) (a b : Engine) (item : Run) (
   -- the same of a packet by another name
   pub begins_run : (y : Packet) (key : Option (List ℕ)) (j : ℕ) → x ≡ y → key_of y.frame ≡ key → j ≡ length a.runs.items → AreFlows ps b.flows
       → Puts ps a.flows key (if item.progress.is_open then Some j else None) b.flows
-      → ((l : ℕ) → place_of ps a.flows key ≡ Some l → IsMergeableWithin segs (get_or (runs_of ps a) l [] ++ (y ∷ [])) → ⊥)
-      → b.last ≡ (if item.progress.is_open then Some j else None) → Takes segs ps i a b
+      → ((l : ℕ) → place_of ps a.flows key ≡ Some l → IsMergeableWithin limits (get_or (runs_of ps a) l [] ++ (y ∷ [])) → ⊥)
+      → b.last ≡ (if item.progress.is_open then Some j else None) → Takes limits ps i a b
   begins_run y key j e k n flows puts not last =
       opens_run key j (ap (λ (z : Packet). key_of z.frame) e ∙ k) n flows puts
-      (λ l g m. not l g (subst (λ z. IsMergeableWithin segs (get_or (runs_of ps a) l [] ++ (z ∷ []))) e m)) last
+      (λ l g m. not l g (subst (λ z. IsMergeableWithin limits (get_or (runs_of ps a) l [] ++ (z ∷ []))) e m)) last
 
   -- what finds nothing finds nothing else
   keeps_none : (look : Option (List ℕ) → Option ℕ) (key q : Option (List ℕ)) → look key ≡ None
@@ -404,7 +402,7 @@ module _ (segs : ℕ) (ps : List Packet) (i : ℕ) (a b : Engine) (item : Run) (
   ]
 
   -- a packet that no other joins, of a flow that finds nothing
-  pub opens_alone : place_of ps a.flows (key_of x.frame) ≡ None → IsShut (x ∷ []) → b.flows ≡ a.flows → b.last ≡ None → Takes segs ps i a b
+  pub opens_alone : place_of ps a.flows (key_of x.frame) ≡ None → IsShut (x ∷ []) → b.flows ≡ a.flows → b.last ≡ None → Takes limits ps i a b
   opens_alone none shut e last =
       let key : Option (List ℕ) = key_of x.frame in
       opens_at key (length a.runs.items) false refl refl (subst (AreFlows ps) (sym e) runs.flows)
@@ -435,15 +433,15 @@ pub own_by : (ps : List Packet) (a : Engine) (key : Option (List ℕ)) (place : 
 own_by ps a key place index found = (found, own_last (place_of ps a.flows) (runs_of ps a) key place index found)
 
 -- a run that has taken a packet, and the flows behind it
-pub taken_by : (segs : ℕ) (ps : List Packet) (i place : ℕ) (is_open : Bool) (a b : Engine) (f : Flows) (runs : AreRuns ps i a) (inside : place < length a.runs.items)
+pub taken_by : (limits : Limits) (ps : List Packet) (i place : ℕ) (is_open : Bool) (a b : Engine) (f : Flows) (runs : AreRuns ps i a) (inside : place < length a.runs.items)
     (g : Grows ps i place is_open a b) (x : Packet) → packet_at ps i ≡ x → (key : Option (List ℕ)) → key_of x.frame ≡ key → place_of ps a.flows key ≡ Some place
-    → IsMergeableWithin segs (get_or (runs_of ps a) place [] ++ (x ∷ [])) → (now : Option ℕ) → now ≡ (if is_open then Some place else None)
+    → IsMergeableWithin limits (get_or (runs_of ps a) place [] ++ (x ∷ [])) → (now : Option ℕ) → now ≡ (if is_open then Some place else None)
     → AreFlows ps f → Puts ps b.flows key (if is_open then Some place else None) f → ((n : ℕ) → HasRoom b.flows (n + 1) → HasRoom f n)
-    → Takes segs ps i a (record { runs = b.runs; next = b.next; flows = f; last = now })
-taken_by segs ps i place is_open a b f runs inside g x ex key k found m now el flows puts room =
-    subst (λ (z : Option ℕ). Takes segs ps i a (record { runs = b.runs; next = b.next; flows = f; last = z })) (sym el)
-    (taken segs ps i place is_open a b f runs inside g key (ap (λ (z : Packet). key_of z.frame) ex ∙ k) found
-    (subst (λ z. IsMergeableWithin segs (get_or (runs_of ps a) place [] ++ (z ∷ []))) (sym ex) m) flows
+    → Takes limits ps i a (record { runs = b.runs; next = b.next; flows = f; last = now })
+taken_by limits ps i place is_open a b f runs inside g x ex key k found m now el flows puts room =
+    subst (λ (z : Option ℕ). Takes limits ps i a (record { runs = b.runs; next = b.next; flows = f; last = z })) (sym el)
+    (taken limits ps i place is_open a b f runs inside g key (ap (λ (z : Packet). key_of z.frame) ex ∙ k) found
+    (subst (λ z. IsMergeableWithin limits (get_or (runs_of ps a) place [] ++ (z ∷ []))) (sym ex) m) flows
     (subst (λ (z : Flows). Puts ps z key (if is_open then Some place else None) f) g.flows puts)
     (subst (λ (z : Flows). (n : ℕ) → HasRoom z (n + 1) → HasRoom f n) g.flows room))
 
@@ -472,38 +470,30 @@ split_all : {X : Type 0} (P : X → Type 0) (xs : List X) (y : X) → AllByRecur
 split_all P [] y a = (tt, a.0)
 split_all P (x ∷ xs) y a = let s = split_all P xs y a.1 in ((a.0, s.0), s.1)
 
-pub received_one : (segs : ℕ) (ps : List Packet) (i : ℕ) (a b : Engine) → HasReceived segs ps i a → Takes segs ps i a b → DoRise ps → i < length ps → HasReceived segs ps (i + 1) b
-received_one segs ps i a b r t rise h =
+pub received_one : (limits : Limits) (ps : List Packet) (i : ℕ) (a b : Engine) → HasReceived limits ps i a → Takes limits ps i a b → DoRise ps → i < length ps → HasReceived limits ps (i + 1) b
+received_one limits ps i a b r t rise h =
     let x : Packet = packet_at ps i in
     let more : take (i + 1) ps ≡ take i ps ++ (x ∷ []) = take_more ps i no_packet h in
     record {
       are = t.runs;
-      runs = subst (λ (z : List Packet). AreItems (IsMergeableWithin segs) is_of number_of z (runs_of ps b)) (sym more)
+      runs = subst (λ (z : List Packet). AreItems (IsMergeableWithin limits) is_of number_of z (runs_of ps b)) (sym more)
           (t.takes (take i ps) (r.early x.number (earlier ps i no_packet rise h)) r.runs);
       early = λ n all.
           let s = split_all (λ (p : Packet). p.number < n) (take i ps) x (subst (AllByRecursion (λ (p : Packet). p.number < n)) more all) in
           t.early n (r.early n s.0) s.1;
     }
 
-pub all_runs : (segs : ℕ) (ps : List Packet) (runs : List (List Packet)) → DoRise ps → AreItems (IsMergeableWithin segs) is_of number_of ps runs → runs ≡ runs_in segs ps
-all_runs segs ps runs r items =
-    let alone : Spread = λ key. 0 in
-    let none : (key : Option (List ℕ)) → alone key < 1 = λ key. omega arith in
-    let own : AreItems (IsMergeableWithin segs) is_of number_of ps (items_of segs alone 0 ps) = subst (λ z. AreItems (IsMergeableWithin segs) is_of number_of z (items_of segs alone 0 ps))
-    (all_queued alone ps none) (items_are segs alone 0 ps r) in
-    unique_items is_of number_of key_in (λ p. key_eq_self (key_of p.frame)) (IsMergeableWithin segs) (fronts_too segs) ps runs (items_of segs alone 0 ps) items own ∙ one_queue segs alone ps none
-
-pub all_received : (segs : ℕ) (ps : List Packet) (n : ℕ) (e : Engine) → HasReceived segs ps n e → n ≡ length ps → DoRise ps → runs_of ps e ≡ runs_in segs ps
-all_received segs ps n e r l rise =
-    all_runs segs ps (runs_of ps e) rise
-    (subst (λ (z : List Packet). AreItems (IsMergeableWithin segs) is_of number_of z (runs_of ps e)) (take_all n ps (omega (arith, l))) r.runs)
+pub all_received : (limits : Limits) (ps : List Packet) (n : ℕ) (e : Engine) → HasReceived limits ps n e → n ≡ length ps → DoRise ps → runs_of ps e ≡ runs_within limits ps
+all_received limits ps n e r l rise =
+    within_alone limits ps (runs_of ps e) rise
+    (subst (λ (z : List Packet). AreItems (IsMergeableWithin limits) is_of number_of z (runs_of ps e)) (take_all n ps (omega (arith, l))) r.runs)
 
 -- none yet
-pub none_yet : (segs : ℕ) → AreItems (IsMergeableWithin segs) is_of number_of [] []
-none_yet segs = record { full = tt; flows = λ k. record { filled = tt; joined = refl; each = tt; maximal = tt }; ordered = tt }
+pub none_yet : (limits : Limits) → AreItems (IsMergeableWithin limits) is_of number_of [] []
+none_yet limits = record { full = tt; flows = λ k. record { filled = tt; joined = refl; each = tt; maximal = tt }; ordered = tt }
 
-pub ready_received : (segs : ℕ) (ps : List Packet) (n : ℕ) (e : Engine) → IsReady e n → length ps ≤ n → HasReceived segs ps 0 e
-ready_received segs ps n e r h =
+pub ready_received : (limits : Limits) (ps : List Packet) (n : ℕ) (e : Engine) → IsReady e n → length ps ≤ n → HasReceived limits ps 0 e
+ready_received limits ps n e r h =
     let none : runs_of ps e ≡ [] = ap (λ (z : List Run). map (run_of ps e.next.items) z) r.none in
     record {
       are = record {
@@ -514,7 +504,7 @@ ready_received segs ps n e r h =
         index = subst (IsIndexOf (place_of ps e.flows)) (sym none) (index_none (place_of ps e.flows) (r.nothing ps));
         latest = subst (IsLatest (place_of ps e.flows) (runs_of ps e)) (sym r.last) tt;
       };
-      runs = subst (AreItems (IsMergeableWithin segs) is_of number_of []) (sym none) (none_yet segs);
+      runs = subst (AreItems (IsMergeableWithin limits) is_of number_of []) (sym none) (none_yet limits);
       early = λ n' a. subst (AllByRecursion (λ run. first_number number_of run < n')) (sym none) tt;
     }
 

@@ -1,5 +1,5 @@
 -- What a run of packets comes to, as its packets lie.
-use Rattle.std.proofs.Common.{suc, ◌≡◌, ℕ, ◌+◌, ◌-◌, ◌<◌, ◌≤◌, Option, Some, None, List, [], ◌∷◌, ◌++◌, length, get_or, take, refl, sym, ap, ◌∙◌, subst, arith, length-append}
+use Rattle.std.proofs.Common.{suc, ◌≡◌, ℕ, ◌+◌, ◌-◌, ◌<◌, ◌≤◌, Option, Some, None, List, [], ◌∷◌, ◌++◌, length, get_or, take, refl, sym, ap, ◌∙◌, subst, arith}
 use Rattle.std.specs.List.{AllByRecursion}
 use Rattle.std.proofs.lemmas.List.{length-take-le, take-append-le}
 use Rattle.inet_sum.specs.Stands.{FoldAndLength, StandsFor}
@@ -7,13 +7,10 @@ use Rattle.frame_layout.specs.Shape.{Layout}
 use Rattle.frame_layout.specs.Headers.{AtHeaders, AreLaid}
 use Rattle.frame_layout.specs.Segment.{HasFlags}
 use Rattle.pcap_io.specs.Capture.{Packet}
-use Rattle.offload_model.specs.Edits.{with_edits, put_flags_of}
 use Rattle.offload_model.specs.Frames.{merged_frame}
 use Rattle.offload_model.specs.Mergeable.{payloads_of, IsLengthInRange}
 use Rattle.offload_model.specs.Merged.{Merged, frame_at, frame_of_run, merged_of}
-use Rattle.offload_model.proofs.Edits.{with_edits-long}
-use Rattle.offload_model.proofs.Functions.{copying_flags}
-use Rattle.offload_model.proofs.Made.{with_lengths_and_sums-long}
+use Rattle.offload_model.proofs.Within.{merged_long}
 use Rattle.merge_rule.specs.declared.rule.Progress.{Progress}
 use Rattle.merge_rule.specs.Runs.{IsRunOf, IsRunBy}
 use Rattle.merge_rule.proofs.Knows.{run_some, bounded, within}
@@ -23,14 +20,6 @@ use Rattle.frame_runs.specs.Engine.{Knows}
 use Rattle.frame_runs.specs.Frames.{IsFrontOf}
 use Rattle.frame_runs.specs.MergedRun.{payload_place, headers_size, payloads_behind}
 use Rattle.frame_runs.proofs.Comes.{all_inside, comes_to}
-
--- the merged frame has the first frame's headers and all payloads
-merged_long : (layout : Layout) (first last payload : List ℕ) → length (merged_frame layout first last payload) ≡ length (take layout.payload_at first) + length payload
-merged_long layout first last payload =
-    let joined : List ℕ = take layout.payload_at first ++ payload in
-    with_lengths_and_sums-long layout.headers (with_edits (put_flags_of last) layout.headers joined)
-    ∙ with_edits-long _ (put_flags_of last) (copying_flags last) layout.headers joined
-    ∙ length-append (take layout.payload_at first) payload
 
 -- ---- a run of several
 

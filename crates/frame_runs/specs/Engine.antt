@@ -5,6 +5,7 @@ use Rattle.std.specs.Prelude.{set, slice_index_or, vec_len, vec_capacity}
 use Rattle.std.specs.List.{AllByRecursion}
 use Rattle.maximal_runs.specs.Cut.{AllNeighbours}
 use Rattle.maximal_runs.specs.Items.{first_number, AreItems}
+use Rattle.offload_model.specs.declared.limits.Limits.{Limits}
 use Rattle.pcap_io.specs.Capture.{Packet}
 use Rattle.offload_model.specs.Mergeable.{IsMergeable, IsMergeableWithin}
 use Rattle.offload_model.specs.Rounds.{is_of, number_of}
@@ -81,11 +82,11 @@ pub record IsReady (e : Engine) (n : ℕ) : Type 0 where
   pub last : e.last ≡ None
   pub places : HasPlaces e n
 
--- one more packet, that of index i: the runs, of at most `segs` packets each, are those of the packets so far, whatever
--- these are, with that one
-pub record Takes (segs : ℕ) (ps : List Packet) (i : ℕ) (a b : Engine) : Type 0 where
+-- one more packet, that of index i: the runs, within limits each, are those of the packets so far, whatever these are,
+-- with that one
+pub record Takes (limits : Limits) (ps : List Packet) (i : ℕ) (a b : Engine) : Type 0 where
   pub runs : AreRuns ps (i + 1) b
-  pub takes : TakesPacket segs (runs_of ps a) (packet_at ps i) (runs_of ps b)
+  pub takes : TakesPacket limits (runs_of ps a) (packet_at ps i) (runs_of ps b)
   pub early : KeepsEarly (runs_of ps a) (packet_at ps i) (runs_of ps b)
   pub linked : length b.next.items ≡ length a.next.items
   pub places : (n : ℕ) → HasPlaces a (n + 1) → HasPlaces b n
@@ -95,8 +96,8 @@ abbrev pub DoRise : List Packet → Type 0
 DoRise ps = AllNeighbours (λ (p q : Packet). p.number < q.number) ps
 
 -- the engine has received the first i packets: its runs are theirs
-pub record HasReceived (segs : ℕ) (ps : List Packet) (i : ℕ) (e : Engine) : Type 0 where
+pub record HasReceived (limits : Limits) (ps : List Packet) (i : ℕ) (e : Engine) : Type 0 where
   pub are : AreRuns ps i e
-  pub runs : AreItems (IsMergeableWithin segs) is_of number_of (take i ps) (runs_of ps e)
+  pub runs : AreItems (IsMergeableWithin limits) is_of number_of (take i ps) (runs_of ps e)
   pub early : (n : ℕ) → AllByRecursion (λ (p : Packet). p.number < n) (take i ps)
       → AllByRecursion (λ run. first_number number_of run < n) (runs_of ps e)

@@ -7,7 +7,8 @@ ghost use Rattle.std.specs.Bool.{Decides};
 ghost use Rattle.maximal_runs.specs.Items.{begins_in};
 ghost use Rattle.frame_layout.specs.Key.{key_of};
 ghost use Rattle.offload_model.specs.Mergeable.{IsMergeable, IsMergeableWithin};
-ghost use Rattle.offload_model.specs.Rounds.{is_of, runs_in};
+ghost use Rattle.offload_model.specs.declared.limits.Limits.{Limits as LimitsOf};
+ghost use Rattle.offload_model.specs.Rounds.{is_of, runs_within};
 ghost use Rattle.merge_rule.specs.Runs.{IsJudged, IsNoCandidate, IsFirstProgress};
 ghost use Rattle.pcap_io.specs.Capture.{Packet};
 ghost use Rattle.frame_runs.specs.Chains.{IsHere};
@@ -20,6 +21,7 @@ use crate::flows::{Flows, Group};
 use crate::frame::Frame;
 use crate::run::{Run, progress_of};
 use merge_rule::{Candidacy, Progress};
+use offload_model::Limits;
 use std::alloc::{AllocError, Global};
 
 /// The runs of a list of packets, by index: no packet is in it.
@@ -160,7 +162,7 @@ impl Engine {
         requires hash { hash ≡ hash_of (key_of (F.packet slot.now).frame) }
         requires none { place_of (map F.packet packets.now) self.old.flows (key_of (F.packet slot.now).frame)
             ≡ None }
-        ensures takes { (segs : ℕ) → Takes segs (map F.packet packets.now) i self.old self.new }
+        ensures takes { (limits : LimitsOf) → Takes limits (map F.packet packets.now) i self.old self.new }
     {
         let place = self.runs.len();
         let is_open = progress.is_open;
@@ -195,10 +197,10 @@ impl Engine {
         requires hash { hash ≡ hash_of (key_of (F.packet slot.now).frame) }
         requires place { place_of (map F.packet packets.now) self.old.flows (key_of (F.packet slot.now).frame)
             ≡ Some found }
-        ensures takes { (segs : ℕ) → (IsMergeableWithin segs
+        ensures takes { (limits : LimitsOf) → (IsMergeableWithin limits
             (slice_index_or (runs_of (map F.packet packets.now) self.old) found []
             ++ (F.packet slot.now ∷ [])) → ⊥)
-            → Takes segs (map F.packet packets.now) i self.old self.new }
+            → Takes limits (map F.packet packets.now) i self.old self.new }
     {
         let is_open = progress.is_open;
         let place = self.runs.len();
@@ -220,7 +222,7 @@ impl Engine {
         requires alone { IsNoCandidate (F.packet slot.now).frame (F.packet slot.now).original }
         requires none { place_of (map F.packet packets.now) self.old.flows (key_of (F.packet slot.now).frame)
             ≡ None }
-        ensures takes { (segs : ℕ) → Takes segs (map F.packet packets.now) i self.old self.new }
+        ensures takes { (limits : LimitsOf) → Takes limits (map F.packet packets.now) i self.old self.new }
     {
         self.last = None;
         self.runs.push_reserved(Run::alone(i));
@@ -248,10 +250,10 @@ impl Engine {
             ≡ Some found }
         requires mergeable { IsMergeable (slice_index_or (runs_of (map F.packet packets.now) self.old) found []
             ++ (F.packet slot.now ∷ [])) }
-        ensures takes { (segs : ℕ) → IsMergeableWithin segs
+        ensures takes { (limits : LimitsOf) → IsMergeableWithin limits
             (slice_index_or (runs_of (map F.packet packets.now) self.old) found []
             ++ (F.packet slot.now ∷ []))
-            → Takes segs (map F.packet packets.now) i self.old self.new }
+            → Takes limits (map F.packet packets.now) i self.old self.new }
     {
         let addition = Addition {
             payload: candidacy.payload,
@@ -283,9 +285,9 @@ impl Engine {
             ≡ Some place }
         requires mergeable { IsMergeable (slice_index_or (runs_of (map F.packet packets.now) self.old) place []
             ++ (F.packet slot.now ∷ [])) }
-        ensures takes { (segs : ℕ) → IsMergeableWithin segs
+        ensures takes { (limits : LimitsOf) → IsMergeableWithin limits
             (slice_index_or (runs_of (map F.packet packets.now) self.old) place [] ++ (F.packet slot.now ∷ []))
-            → Takes segs (map F.packet packets.now) i self.old self.new }
+            → Takes limits (map F.packet packets.now) i self.old self.new }
     {
         let is_open = self.link(packets, i, slot, place, addition);
         settle(&mut self.flows, slot, place, is_open);
@@ -299,7 +301,7 @@ impl Engine {
         place: usize,
         slot: &F,
         candidacy: &Candidacy,
-        segs: u32,
+        limits: Limits,
     ) -> bool
         requires each { AllByRecursion (IsChain (map F.packet packets.now) self.now.next.items) self.now.runs.items }
         requires slots { AllByRecursion F.is_held packets.now }
@@ -307,13 +309,13 @@ impl Engine {
         requires slot { F.is_held slot.now }
         requires judged { IsJudged (F.packet slot.now).frame (F.packet slot.now).original candidacy.now.layout
             candidacy.now.payload candidacy.now.flags }
-        ensures takes { Decides result (IsMergeableWithin segs
+        ensures takes { Decides result (IsMergeableWithin limits
             (slice_index_or (runs_of (map F.packet packets.now) self.now) place [] ++ (F.packet slot.now ∷ []))) }
         ensures flow { IsTrue result → begins_in (is_of (key_of (F.packet slot.now).frame))
             (slice_index_or (runs_of (map F.packet packets.now) self.now) place []) ≡ true }
     {
         let run = &self.runs[place];
-        run.takes_within(&packets[run.first as usize], slot, candidacy, segs)
+        run.takes_within(&packets[run.first as usize], slot, candidacy, limits)
     }
 
     /// What a packet adds to the run at a place, where that run takes it. If so, that is of the run's flow.
@@ -322,13 +324,13 @@ impl Engine {
         packets: &[F],
         place: usize,
         slot: &F,
-        segs: u32,
+        limits: Limits,
     ) -> Option<Addition>
         requires each { AllByRecursion (IsChain (map F.packet packets.now) self.now.next.items) self.now.runs.items }
         requires slots { AllByRecursion F.is_held packets.now }
         requires inside { place < length self.now.runs.items }
         requires slot { F.is_held slot.now }
-        ensures takes { IfSome result (λ a. IsMergeableWithin segs
+        ensures takes { IfSome result (λ a. IsMergeableWithin limits
             (slice_index_or (runs_of (map F.packet packets.now) self.now) place [] ++ (F.packet slot.now ∷ []))) }
         ensures added { IfSome result (λ a.
             IsAdded (F.packet slot.now).frame (F.packet slot.now).original a.payload a.flags) }
@@ -336,7 +338,7 @@ impl Engine {
             (slice_index_or (runs_of (map F.packet packets.now) self.now) place []) ≡ true) }
     {
         let run = &self.runs[place];
-        run.addition_within(&packets[run.first as usize], slot, segs)
+        run.addition_within(&packets[run.first as usize], slot, limits)
     }
 
     /// Whether a packet can neither be merged nor end a run, whatever its flow is.
@@ -349,7 +351,7 @@ impl Engine {
     }
 
     /// A packet that the last packet's run doesn't take: its flow's run takes it, or it opens one.
-    fn place<F: Frame>(&mut self, packets: &[F], i: u32, slot: &F, candidacy: Candidacy, segs: u32)
+    fn place<F: Frame>(&mut self, packets: &[F], i: u32, slot: &F, candidacy: Candidacy, limits: Limits)
         requires runs { AreRuns (map F.packet packets.now) i self.old }
         requires places { HasPlaces self.old 1 }
         requires slots { AllByRecursion F.is_held packets.now }
@@ -357,14 +359,14 @@ impl Engine {
         requires slot { F.is_held slot.now }
         requires judged { IsJudged (F.packet slot.now).frame (F.packet slot.now).original candidacy.layout
             candidacy.payload candidacy.flags }
-        ensures takes { Takes segs (map F.packet packets.now) i self.old self.new }
+        ensures takes { Takes limits (map F.packet packets.now) i self.old self.new }
     {
         let hash = flow_hash(slot, &candidacy);
         let Some(found) = self.flows.find(packets, slot, &candidacy, hash) else {
             let progress = progress_of(slot, &candidacy);
             return self.begin(packets, i, slot, hash, candidacy, progress);
         };
-        if self.takes_at(packets, found, slot, &candidacy, segs) {
+        if self.takes_at(packets, found, slot, &candidacy, limits) {
             return self.grow(packets, i, slot, hash, found, &candidacy);
         }
         let progress = progress_of(slot, &candidacy);
@@ -372,13 +374,13 @@ impl Engine {
     }
 
     /// A packet that the last packet's run isn't seen to take.
-    fn receive_apart<F: Frame>(&mut self, packets: &[F], i: u32, slot: &F, segs: u32)
+    fn receive_apart<F: Frame>(&mut self, packets: &[F], i: u32, slot: &F, limits: Limits)
         requires runs { AreRuns (map F.packet packets.now) i self.old }
         requires places { HasPlaces self.old 1 }
         requires slots { AllByRecursion F.is_held packets.now }
         requires here { IsHere F.packet packets.now i slot.now }
         requires slot { F.is_held slot.now }
-        ensures takes { Takes segs (map F.packet packets.now) i self.old self.new }
+        ensures takes { Takes limits (map F.packet packets.now) i self.old self.new }
     {
         if self.flows.is_empty() && is_refused(slot) {
             return self.stand_alone(packets, i, slot);
@@ -387,39 +389,39 @@ impl Engine {
         if self.is_apart(&candidacy) {
             return self.stand_alone(packets, i, slot);
         }
-        self.place(packets, i, slot, candidacy, segs);
+        self.place(packets, i, slot, candidacy, limits);
     }
 
-    /// Packet i of a list of which the first i were received, in runs of at most `segs`: the last run of its flow takes
+    /// Packet i of a list of which the first i were received, in runs within limits: the last run of its flow takes
     /// it, or it opens the next one. It takes no memory and can't fail.
-    pub fn receive<F: Frame>(&mut self, packets: &[F], i: u32, segs: u32)
+    pub fn receive<F: Frame>(&mut self, packets: &[F], i: u32, limits: Limits)
         requires runs { AreRuns (map F.packet packets.now) i self.old }
         requires places { HasPlaces self.old 1 }
         requires slots { AllByRecursion F.is_held packets.now }
         requires inside { i < length packets.now }
-        ensures takes { Takes segs (map F.packet packets.now) i self.old self.new }
+        ensures takes { Takes limits (map F.packet packets.now) i self.old self.new }
     {
         let slot = &packets[i as usize];
         if let Some(place) = self.last {
-            if let Some(addition) = self.addition_at(packets, place, slot, segs) {
+            if let Some(addition) = self.addition_at(packets, place, slot, limits) {
                 return self.extend(packets, i, slot, place, &addition);
             }
         }
-        self.receive_apart(packets, i, slot, segs);
+        self.receive_apart(packets, i, slot, limits);
     }
 
-    /// All packets of a list, whose numbers rise, in runs of at most `segs`, by an engine that has no runs yet. It
+    /// All packets of a list, whose numbers rise, in runs within limits, by an engine that has no runs yet. It
     /// takes no memory and can't fail.
-    pub fn merge<F: Frame>(&mut self, packets: &[F], segs: u32)
+    pub fn merge<F: Frame>(&mut self, packets: &[F], limits: Limits)
         requires ready { IsReady self.old (length packets.now) }
         requires slots { AllByRecursion F.is_held packets.now }
         requires rising { DoRise (map F.packet packets.now) }
         requires few { length packets.now < 2 ^ 32 }
-        ensures runs { runs_of (map F.packet packets.now) self.new ≡ runs_in segs (map F.packet packets.now) }
+        ensures runs { runs_of (map F.packet packets.now) self.new ≡ runs_within limits (map F.packet packets.now) }
         ensures are { AreRuns (map F.packet packets.now) (length packets.now) self.new }
     {
         for i in 0..packets.len() {
-            self.receive(packets, i as u32, segs);
+            self.receive(packets, i as u32, limits);
         }
     }
 }

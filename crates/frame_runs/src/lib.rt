@@ -14,8 +14,8 @@
 //!
 //! Proved of an [`Engine`], over whatever gives frames:
 //!
-//! - `runs` of `merge`: its runs, as packets of the list, are the maximal mergeable runs of each flow. It takes no
-//!   memory and can't fail.
+//! - `runs` of `merge`: its runs, as packets of the list, are the maximal mergeable runs of each flow within limits: at
+//!   most so many packets, whose merged frame has at most so many bytes. It takes no memory and can't fail.
 //! - `takes` of `receive`: so it goes packet by packet, and `are`: each index stands in one chain, once.
 //! - `ready` of `make` and `start`: there is room for so many packets, whatever was merged before.
 //!
@@ -43,7 +43,7 @@
 //!         number: 1,
 //!     },
 //! ];
-//! engine.merge(&frames, 4096);
+//! engine.merge(&frames, Limits::up_to(4096));
 //! let runs = engine.runs.len(); // 1: the second frame follows the first one in its flow
 //! ```
 //!

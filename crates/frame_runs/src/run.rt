@@ -3,7 +3,7 @@ ghost use Rattle.std.specs.Prelude.{◌≡◌, ◌+◌, ◌++◌, ◌∷◌, [],
 ghost use Rattle.std.specs.Bool.{Decides};
 ghost use Rattle.frame_layout.specs.Key.{key_of};
 ghost use Rattle.pcap_io.specs.Capture.{Packet};
-ghost use Rattle.offload_model.specs.Mergeable.{IsMergeable, IsMergeableWithin};
+ghost use Rattle.offload_model.specs.Mergeable.{IsMergeable, AreWithin, IsMergeableWithin};
 ghost use Rattle.merge_rule.specs.Next.{IsNext};
 ghost use Rattle.merge_rule.specs.Runs.{IsJudged, IsNoCandidate, IsFirstProgress, IsNextProgress};
 ghost use Rattle.frame_runs.specs.Engine.{Knows, KnowsSome, TakesOne, IsAdded};
@@ -14,6 +14,8 @@ use frame_layout::Layout;
 use inet_sum::Partial;
 use merge_rule::{Candidacy, Progress, first_progress, is_next, next_progress};
 use net_bytes::be32;
+use offload_model::Limits;
+use pcap_io::FRAME_LIMIT;
 
 /// A run of packets of one layout. A packet that may not be merged is alone in its run.
 #[derive(Drop)]
@@ -156,23 +158,45 @@ impl Run {
         judge_as(layout, next)
     }
 
-    /// The same of a run that has at most `segs` packets with it.
+    /// Whether the run is within limits with one more packet, where it takes that.
+    #[inline(always)]
+    fn is_within<F: Frame>(&self, next: &F, limits: Limits) -> bool
+        requires knows { (p : Packet) × KnowsSome self.now p }
+        requires next { F.is_held next.now }
+        ensures within { (p : Packet) (rest : List Packet) → Knows self.now p rest
+            → IsMergeable ((p ∷ rest) ++ (F.packet next.now ∷ []))
+            → Decides result (AreWithin limits ((p ∷ rest) ++ (F.packet next.now ∷ []))) }
+    {
+        if self.more as usize + 2 > limits.segs as usize {
+            return false;
+        }
+        // A bound that no frame passes is none.
+        if limits.bytes >= FRAME_LIMIT {
+            return true;
+        }
+        let Some(layout) = &self.layout else {
+            return true;
+        };
+        self.progress.total + next.len() <= limits.bytes as usize + layout.payload_at()
+    }
+
+    /// The same of a run that is within limits with it.
     pub(crate) fn addition_within<F: Frame>(
         &self,
         first: &F,
         next: &F,
-        segs: u32,
+        limits: Limits,
     ) -> Option<Addition>
         requires knows { KnowsSome self.now (F.packet first.now) }
         requires slot { F.is_held first.now }
         requires next { F.is_held next.now }
         ensures takes { IfSome result (λ a. (rest : List Packet) → Knows self.now (F.packet first.now) rest
-            → IsMergeableWithin segs ((F.packet first.now ∷ rest) ++ (F.packet next.now ∷ []))) }
+            → IsMergeableWithin limits ((F.packet first.now ∷ rest) ++ (F.packet next.now ∷ []))) }
         ensures added { IfSome result (λ a.
             IsAdded (F.packet next.now).frame (F.packet next.now).original a.payload a.flags) }
         ensures flow { IfSome result (λ a. key_of (F.packet next.now).frame ≡ key_of (F.packet first.now).frame) }
     {
-        if (segs as usize) < self.more as usize + 2 {
+        if !self.is_within(next, limits) {
             return None;
         }
         self.addition(first, next)
@@ -201,13 +225,13 @@ impl Run {
         }
     }
 
-    /// Whether the run takes one more packet and has at most `segs` with it. If so, that is of the run's flow.
+    /// Whether the run takes one more packet and is within limits with it. If so, that is of the run's flow.
     pub(crate) fn takes_within<F: Frame>(
         &self,
         first: &F,
         next: &F,
         candidacy: &Candidacy,
-        segs: u32,
+        limits: Limits,
     ) -> bool
         requires knows { KnowsSome self.now (F.packet first.now) }
         requires slot { F.is_held first.now }
@@ -215,10 +239,10 @@ impl Run {
             candidacy.now.payload candidacy.now.flags }
         requires next { F.is_held next.now }
         ensures takes { (rest : List Packet) → Knows self.now (F.packet first.now) rest
-            → Decides result (IsMergeableWithin segs ((F.packet first.now ∷ rest) ++ (F.packet next.now ∷ []))) }
+            → Decides result (IsMergeableWithin limits ((F.packet first.now ∷ rest) ++ (F.packet next.now ∷ []))) }
         ensures flow { IsTrue result → key_of (F.packet next.now).frame ≡ key_of (F.packet first.now).frame }
     {
-        if self.more as usize + 2 > segs as usize {
+        if !self.is_within(next, limits) {
             return false;
         }
         self.takes(first, next, candidacy)

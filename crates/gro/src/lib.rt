@@ -19,7 +19,7 @@
 //! ```
 //! packets.push(first);
 //! packets.push(next);
-//! engine.merge(packets.slots(), 4096);
+//! engine.merge(packets.slots(), Limits::up_to(4096));
 //! let blocks = packets.free(); // 2: each packet's own, as no run has moved any
 //! ```
 //!

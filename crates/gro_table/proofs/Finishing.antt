@@ -18,7 +18,8 @@ use Rattle.frame_runs.specs.declared.engine.Engine.{Engine}
 use Rattle.gro_table.specs.Lists.{held_of}
 use Rattle.gro_table.specs.Waiting.{held_in, AreTogether}
 use Rattle.gro_table.proofs.Lining.{counts_total, same_sums}
-use Rattle.frame_runs.proofs.Merging.{all_runs}
+use Rattle.offload_model.specs.Mergeable.{up_to}
+use Rattle.offload_model.proofs.Items.{within_alone}
 use Rattle.gro_table.proofs.Tables.{counts_totals}
 
 -- ---- run by run
@@ -134,7 +135,7 @@ items_model (r ∷ rs) [] a = absurd a
 items_model (r ∷ rs) (i ∷ is) a = ap (λ z. z ∷ map item_of is) a.0.0 ∙ ap (λ z. merged_of (map packet_of r) ∷ z) (items_model rs is a.1)
 
 pub received_merged : (ps : List Held) (t : TableState) (is : List Item) → Received ps t → AreItemsFrom t.runs is → map item_of is ≡ map merged_of (runs_in t.segs (map packet_of ps))
-received_merged ps t is r a = items_model t.runs is a ∙ ap (map merged_of) (all_runs t.segs (map packet_of ps) (map (λ (r : List Held). map packet_of r) t.runs) r.are.rising r.are.runs)
+received_merged ps t is r a = items_model t.runs is a ∙ ap (map merged_of) (within_alone (up_to t.segs) (map packet_of ps) (map (λ (r : List Held). map packet_of r) t.runs) r.are.rising r.are.runs)
 
 -- what runs hold is what the packets of the list do
 pub account_same : (l : PacketList) (e : Engine) → AreTogether l e → (u : Tests) (m : ℕ)

@@ -6,7 +6,7 @@ use Rattle.maximal_runs.specs.Cut.{AllNeighbours}
 use Rattle.maximal_runs.specs.Items.{first_number, AreItems}
 use Rattle.maximal_runs.proofs.Pass.{all_append}
 use Rattle.pcap_io.specs.Capture.{Packet}
-use Rattle.offload_model.specs.Mergeable.{IsMergeableWithin}
+use Rattle.offload_model.specs.Mergeable.{up_to, IsMergeableWithin}
 use Rattle.offload_model.specs.Rounds.{is_of, number_of}
 use Rattle.gro_table.specs.declared.packet.Packet.{Packet as Held}
 use Rattle.gro.specs.declared.slot.Slot.{Slot}
@@ -123,7 +123,7 @@ module _ (segs : ℕ) (l m : PacketList) (a : Engine) (x : Held) (limit received
   early_before =
       subst (AllByRecursion (λ run. first_number number_of run < x.number)) (sym same_before) (early_more (runs_of ps a) above x.number rising t.early)
 
-  module _ (b : Engine) (takes : Takes segs qs received a b) where
+  module _ (b : Engine) (takes : Takes (up_to segs) qs received a b) where
     together_now : AreTogether m b
     together_now = record {
       paired = paired_now;
@@ -162,14 +162,14 @@ module _ (segs : ℕ) (l m : PacketList) (a : Engine) (x : Held) (limit received
         let before : AreRunsOf segs (map packet_of hs) old.runs = subst (λ n. AreRunsOf n (map packet_of hs) old.runs) es r.are in
         let early : AllByRecursion (λ run. first_number number_of run < (packet_at qs received).number) (runs_of qs a)
         = subst (λ (z : Packet). AllByRecursion (λ run. first_number number_of run < z.number) (runs_of qs a)) (sym at_here) early_before in
-        let items : AreItems (IsMergeableWithin segs) is_of number_of (map packet_of hs ++ (packet_at qs received ∷ [])) (runs_of qs b)
-        = takes.takes (map packet_of hs) early (subst (AreItems (IsMergeableWithin segs) is_of number_of (map packet_of hs)) wrote before.runs) in
+        let items : AreItems (IsMergeableWithin (up_to segs)) is_of number_of (map packet_of hs ++ (packet_at qs received ∷ [])) (runs_of qs b)
+        = takes.takes (map packet_of hs) early (subst (AreItems (IsMergeableWithin (up_to segs)) is_of number_of (map packet_of hs)) wrote before.runs) in
         record {
           are = subst (λ n. AreRunsOf n (map packet_of (hs ++ (x ∷ []))) new.runs) (sym en2) (record {
             rising = rising_push hs x r.are.rising low;
-            runs = subst (AreItems (IsMergeableWithin segs) is_of number_of (map packet_of (hs ++ (x ∷ [])))) (sym is)
-                (subst (λ (z : List Packet). AreItems (IsMergeableWithin segs) is_of number_of z (runs_of qs b)) (sym (map-append packet_of hs (x ∷ [])))
-                (subst (λ (z : Packet). AreItems (IsMergeableWithin segs) is_of number_of (map packet_of hs ++ (z ∷ [])) (runs_of qs b)) at_here items));
+            runs = subst (AreItems (IsMergeableWithin (up_to segs)) is_of number_of (map packet_of (hs ++ (x ∷ [])))) (sym is)
+                (subst (λ (z : List Packet). AreItems (IsMergeableWithin (up_to segs)) is_of number_of z (runs_of qs b)) (sym (map-append packet_of hs (x ∷ [])))
+                (subst (λ (z : Packet). AreItems (IsMergeableWithin (up_to segs)) is_of number_of (map packet_of hs ++ (z ∷ [])) (runs_of qs b)) at_here items));
           });
           same = λ f. total_push f hs x ∙ ap (λ (z : ℕ). z + f x) (r.same f ∙ ap (totals f) ea) ∙ sym (sums_now f) ∙ ap (totals f) (sym eb);
           many = omega (arith, length-append hs (x ∷ []), r.many, er);
@@ -186,7 +186,7 @@ table_none l e limit none spares ready slots =
       together = record {
         paired = ap length none ∙ sym (ap length spares);
         slots = subst AreSlots (sym none) tt;
-        are = subst (λ (z : List Slot). AreRuns (map packet_in z) (length z) e) (sym none) (ready_received 0 [] limit e ready (omega arith)).are;
+        are = subst (λ (z : List Slot). AreRuns (map packet_in z) (length z) e) (sym none) (ready_received (up_to 0) [] limit e ready (omega arith)).are;
       };
       early = subst (λ (z : List Run). AllByRecursion (λ run. first_number number_of run < 0) (map (run_of (map packet_in l.slots.items) e.next.items) z)) (sym ready.none) tt;
       many = ap length none;

@@ -7,7 +7,7 @@ use Rattle.maximal_runs.specs.Items.{first_number, AreItems}
 use Rattle.pcap_io.specs.Capture.{Packet}
 use Rattle.skb.specs.SkbState.{buffer_least}
 use Rattle.skb.specs.Fronts.{IsFronted}
-use Rattle.offload_model.specs.Mergeable.{IsMergeableWithin}
+use Rattle.offload_model.specs.Mergeable.{up_to, IsMergeableWithin}
 use Rattle.offload_model.specs.Rounds.{is_of, number_of}
 use Rattle.offload_model.specs.Merged.{merged_of}
 use Rattle.gro_table.specs.declared.packet.Packet.{Packet as Held}
@@ -52,7 +52,7 @@ pub record IsTable (list : PacketList) (engine : Engine) (limit received above c
 -- the runs of all flows of these packets, of at most `segs` packets each, which stand in the order of their numbers
 pub record AreRunsOf (segs : ℕ) (ps : List Packet) (rs : List (List Held)) : Type 0 where
   pub rising : AllNeighbours (λ (p q : Packet). p.number < q.number) ps
-  pub runs : AreItems (IsMergeableWithin segs) is_of number_of ps (map (λ (r : List Held). map packet_of r) rs)
+  pub runs : AreItems (IsMergeableWithin (up_to segs)) is_of number_of ps (map (λ (r : List Held). map packet_of r) rs)
 
 -- the table has received these packets: its runs are theirs, and hold them and nothing else
 pub record Received (ps : List Held) (t : TableState) : Type 0 where

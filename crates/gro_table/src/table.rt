@@ -23,6 +23,7 @@ use crate::packet_list::PacketList;
 use crate::shelf::Shelf;
 use frags::Outcomes;
 use frame_runs::Engine;
+use offload_model::Limits;
 use std::alloc::{AllocError, Global};
 use std::marker::Model;
 
@@ -160,8 +161,9 @@ impl RoundTable {
         let above = packet.number as u64 + 1;
         let count = weigh(&packet);
         self.list.push(packet);
+        let limits = Limits::up_to(self.segs);
         self.engine
-            .receive(&self.list.slots, self.received, self.segs);
+            .receive(&self.list.slots, self.received, limits);
         self.count += count;
         self.received += 1;
         self.above = above;

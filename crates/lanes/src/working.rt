@@ -12,6 +12,7 @@ use crate::shared::program_in;
 use block_pool::Giver;
 use core::mem::replace;
 use off_io::{Gate, Who};
+use offload_model::Limits;
 use std::sync::Wait;
 use tap_filter::Program;
 use taps::{TapTexts, read_clones};
@@ -24,7 +25,8 @@ pub fn work<G: Gate>(gate: &G, segs: u32, lane: &mut QueueLane)
 {
     let who = Who::Worker(lane.queue);
     gate.pass(who, 0);
-    lane.engine.merge(lane.packets.slots(), segs);
+    let limits = Limits::up_to(segs);
+    lane.engine.merge(lane.packets.slots(), limits);
     gate.pass(who, 1);
 }
 

@@ -18,12 +18,13 @@ use Rattle.frame_layout.specs.declared.layout.Layer.{Layer}
 use Rattle.frame_layout.specs.declared.layout.Layer.TheVariants.{Ip4, Udp, Tcp}
 use Rattle.frame_layout.proofs.Lemmas.{laid, same_shape, same_key, bounds, counts, headers_all, headers_map}
 use Rattle.pcap_io.specs.Capture.{Packet}
-use Rattle.offload_model.specs.Mergeable.{AreUdpSumsAlike, IsAckAlone, IsSequenceBehind, AreIdsInStep, IsLengthInRange, AreConsecutive, IsMergeable, payloads_of}
+use Rattle.offload_model.specs.Mergeable.{AreUdpSumsAlike, IsAckAlone, IsSequenceBehind, AreIdsInStep, IsLengthInRange, AreConsecutive, IsMergeable, merged_len, payloads_of}
 use Rattle.offload_model.specs.Merged.{frame_at, is_fixed_in, modes_of}
 use Rattle.frame_layout.specs.Segment.{HasFlags}
 use Rattle.offload_model.specs.Tests.{is_ack_alone}
 use Rattle.offload_model.proofs.Decides.{decides_acks}
 use Rattle.offload_model.proofs.Ranges.{in_range as range_bounds}
+use Rattle.offload_model.proofs.Within.{len_is}
 use Rattle.offload_model.proofs.Grows.{Continues, grows, grown, each_push, each_last}
 use Rattle.merge_rule.specs.Next.{IsNext}
 use Rattle.merge_rule.specs.Runs.{IsProgress, IsNoCandidate, IsCandidateOf, IsJudged, IsRunOf, IsRunBy, IsPlaced, IsFirstProgress, AreNextModes, IsNextProgress}
@@ -67,6 +68,17 @@ module _ (p : Packet) (ps : List Packet) (layout : Layout) (sum : FoldAndLength)
         omega (arith, q.long),
         omega (arith, q.long, range_bounds p.frame layout (layout.payload_at + length (payloads_of layout (p ∷ ps))) r.shape q.line.fits q.line.short),
         (bounds p.frame r.in_bytes layout r.shape).0,
+      )
+
+  -- how many bytes the merged frame has with one more packet, whose headers are left out
+  pub len_with : (x : Packet) → IsMergeable ((p ∷ ps) ++ (x ∷ [])) → merged_len ((p ∷ ps) ++ (x ∷ [])) + layout.payload_at ≡ state.total + length x.frame
+  len_with x m =
+      omega (
+        arith,
+        len_is layout p ((p ∷ ps) ++ (x ∷ [])) r.shape,
+        more_payloads layout (p ∷ ps) x,
+        r.progress.long,
+        (laid x.frame layout (continued x m).shape_is).1,
       )
 
   pub takes_next : (x : Packet) (other : Layout) (s : FoldAndLength) (bits_of : ℕ) (b : Bool) → state.is_open ≡ true → IsCandidateOf x.frame x.original other s bits_of

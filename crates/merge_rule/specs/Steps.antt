@@ -4,6 +4,7 @@ use Rattle.std.specs.List.{AllByRecursion}
 use Rattle.maximal_runs.specs.Items.{first_number, AreItems}
 use Rattle.pcap_io.specs.Capture.{Packet}
 use Rattle.offload_model.specs.Mergeable.{IsMergeableWithin}
+use Rattle.offload_model.specs.declared.limits.Limits.{Limits}
 use Rattle.offload_model.specs.Rounds.{is_of, number_of}
 
 -- the last of the first n elements that pass the test
@@ -13,14 +14,14 @@ IsLastBelow {X} test xs n (Some i) =
     (i < n) × ((d : X) → test (slice_index_or xs i d) ≡ true)
     × ((k : ℕ) (d : X) → i < k → k < n → test (slice_index_or xs k d) ≡ false)
 
--- the runs, of at most `segs` packets each, are those of the packets so far, whatever these are, with one more packet,
--- whose number is above those that begin a run
-abbrev pub TakesPacket : ℕ → List (List Packet) → Packet → List (List Packet) → Type 0
-TakesPacket segs old x new =
+-- the runs, within limits each, are those of the packets so far, whatever these are, with one more packet, whose number
+-- is above those that begin a run
+abbrev pub TakesPacket : Limits → List (List Packet) → Packet → List (List Packet) → Type 0
+TakesPacket limits old x new =
     (packets : List Packet)
     → AllByRecursion (λ run. first_number number_of run < x.number) old
-    → AreItems (IsMergeableWithin segs) is_of number_of packets old
-    → AreItems (IsMergeableWithin segs) is_of number_of (packets ++ (x ∷ [])) new
+    → AreItems (IsMergeableWithin limits) is_of number_of packets old
+    → AreItems (IsMergeableWithin limits) is_of number_of (packets ++ (x ∷ [])) new
 
 -- runs that began before n still do, and so does the new packet's
 abbrev pub KeepsEarly : List (List Packet) → Packet → List (List Packet) → Type 0

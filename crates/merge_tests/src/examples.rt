@@ -16,6 +16,7 @@ use gso_cutter::{Cut, Cutter};
 use inet_sum::Partial;
 use merge_rule::{first_progress, is_next, next_progress};
 use off_io::NoGate;
+use offload_model::Limits;
 use pcap_io::OffHead2;
 use raw_block::Sole;
 use segment_rule::{is_merged, segmentation_of};
@@ -100,7 +101,7 @@ fn example_of_frame_runs(rt: HostRuntime) {
             number: 1,
         },
     ];
-    engine.merge(&frames, 4096);
+    engine.merge(&frames, Limits::up_to(4096));
     let runs = engine.runs.len(); // 1: the second frame follows the first one in its flow
     assert_eq!(rt; runs, 1);
 }
@@ -123,7 +124,8 @@ fn example_of_frame_bursts(rt: HostRuntime) {
             number: 1,
         },
     ];
-    let merged = merge_burst(alloc, 64, &frames, &mut next, &mut runs); // Ok(1): they are one run
+    let limits = Limits::up_to(64);
+    let merged = merge_burst(alloc, limits, &frames, &mut next, &mut runs); // Ok(1): they are one run
     let run = runs[0];
     let is_one = matches!(merged, Ok(1));
     assert!(rt; is_one && (run.first, run.n, run.m, run.length, next[0]) == (0, 2, 4, 60, 1));
@@ -181,7 +183,7 @@ fn example_of_gro(rt: HostRuntime) {
     assert!(rt; first.number < next.number);
     packets.push(first);
     packets.push(next);
-    engine.merge(packets.slots(), 4096);
+    engine.merge(packets.slots(), Limits::up_to(4096));
     let blocks = packets.free(); // 2: each packet's own, as no run has moved any
     assert_eq!(rt; (engine.runs.len(), blocks), (1, 2));
 }

@@ -9,6 +9,8 @@ mod examples;
 #[cfg(test)]
 mod home;
 #[cfg(test)]
+mod limits;
+#[cfg(test)]
 mod merging;
 #[cfg(test)]
 mod seeing;

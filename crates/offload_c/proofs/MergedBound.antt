@@ -19,7 +19,7 @@ use Rattle.pcap_io.proofs.Fronts.{file_whole}
 use Rattle.frame_layout.specs.Key.{key_of}
 use Rattle.offload_model.specs.Captured.{AreCaptured}
 use Rattle.offload_model.specs.Laws.{InBytes}
-use Rattle.offload_model.specs.Mergeable.{IsMergeableWithin}
+use Rattle.offload_model.specs.Mergeable.{up_to, IsMergeableWithin}
 use Rattle.offload_model.specs.Need.{exceeded_at, found_before}
 use Rattle.offload_model.specs.Passing.{behind_head, merging}
 use Rattle.offload_model.specs.Rounds.{Spread, is_of, is_queued, number_of, items_of, rounds_of}
@@ -43,7 +43,7 @@ queue_fits : (segs : ℕ) (spread : Spread) (q : ℕ) (ps : List Packet) → Are
 queue_fits segs spread q ps c =
     let items : List (List Packet) = items_of segs spread q ps in
     let queued : List Packet = filter (is_queued spread q) ps in
-    let i : AreItems (IsMergeableWithin segs) is_of number_of queued items = items_are segs spread q ps c.rising in
+    let i : AreItems (IsMergeableWithin (up_to segs)) is_of number_of queued items = items_are segs spread q ps c.rising in
     omega (arith, runs_fit q items i.full, runs_total run_size items queued i.full (λ key. (i.flows key).joined))
 
 -- a packet is of one queue

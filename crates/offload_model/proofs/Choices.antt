@@ -11,25 +11,22 @@ use Rattle.maximal_runs.proofs.Items.{unique_items}
 use Rattle.maximal_runs.proofs.Parts.{part_items}
 use Rattle.pcap_io.specs.Capture.{Packet}
 use Rattle.frame_layout.specs.Key.{key_of}
-use Rattle.offload_model.specs.Mergeable.{IsMergeableWithin}
+use Rattle.offload_model.specs.Mergeable.{up_to, IsMergeableWithin}
 use Rattle.offload_model.specs.Rounds.{Spread, is_of, is_queued, key_in, number_of, items_of, runs_in}
 use Rattle.offload_model.specs.CaptureLaws.{QueuesKeepRuns, ChoicesKeepItems}
 use Rattle.offload_model.proofs.Fronts.{fronts_too}
-use Rattle.offload_model.proofs.Items.{key_eq_self, key_eq_same, are_flows, items_are}
-use Rattle.offload_model.proofs.OneQueue.{all_queued}
+use Rattle.offload_model.proofs.Items.{key_eq_self, key_eq_same, are_flows, items_are, within_are}
 
 -- the runs of all flows
-all_runs : (segs : ℕ) (ps : List Packet) → AllNeighbours (λ p q. p.number < q.number) ps → AreItems (IsMergeableWithin segs) is_of number_of ps (runs_in segs ps)
-all_runs segs ps rising =
-    let e : filter (is_queued (λ key. 0) 0) ps ≡ ps = all_queued (λ key. 0) ps (λ key. omega arith) in
-    subst (λ (z : List Packet). AreItems (IsMergeableWithin segs) is_of number_of z (runs_in segs z)) e (items_are segs (λ key. 0) 0 ps rising)
+all_runs : (segs : ℕ) (ps : List Packet) → AllNeighbours (λ p q. p.number < q.number) ps → AreItems (IsMergeableWithin (up_to segs)) is_of number_of ps (runs_in segs ps)
+all_runs segs ps rising = within_are (up_to segs) ps rising
 
 pub queues_keep_runs : QueuesKeepRuns
 queues_keep_runs segs spread q ps rising =
-    unique_items is_of number_of key_in (λ p. key_eq_self (key_of p.frame)) (IsMergeableWithin segs) (fronts_too segs) (filter (is_queued spread q) ps) (items_of segs spread q ps)
+    unique_items is_of number_of key_in (λ p. key_eq_self (key_of p.frame)) (IsMergeableWithin (up_to segs)) (fronts_too (up_to segs)) (filter (is_queued spread q) ps) (items_of segs spread q ps)
     (filter (begins_in (is_queued spread q)) (runs_in segs ps))
     (items_are segs spread q ps rising)
-    (part_items (IsMergeableWithin segs) is_of key_in number_of (is_queued spread q) are_flows (λ x y e. ap (λ (k : Option (List ℕ)). spread k == q) (key_eq_same (key_of x.frame) (key_of y.frame) e))
+    (part_items (IsMergeableWithin (up_to segs)) is_of key_in number_of (is_queued spread q) are_flows (λ x y e. ap (λ (k : Option (List ℕ)). spread k == q) (key_eq_same (key_of x.frame) (key_of y.frame) e))
     ps (runs_in segs ps) (all_runs segs ps rising))
 
 -- ---- a list that is parted by a number below n

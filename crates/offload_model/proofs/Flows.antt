@@ -9,7 +9,8 @@ use Rattle.maximal_runs.specs.Items.{begins_in, AreItems}
 use Rattle.maximal_runs.proofs.Pass.{all_front, all_back}
 use Rattle.frame_layout.specs.Key.{key_eq, key_of}
 use Rattle.pcap_io.specs.Capture.{Packet}
-use Rattle.offload_model.specs.Mergeable.{IsMergeable, IsMergeableWithin}
+use Rattle.offload_model.specs.Mergeable.{IsMergeable, up_to, IsMergeableWithin}
+use Rattle.offload_model.specs.declared.limits.Limits.{Limits}
 use Rattle.offload_model.specs.Segments.{packet_in, with_frame, segments_of}
 use Rattle.offload_model.specs.Rounds.{Spread, is_of, is_queued, number_of, items_of, rounds_of}
 use Rattle.offload_model.proofs.Shown.{all_shown}
@@ -51,11 +52,11 @@ zip : (P Q R : List Packet → Type 0) (runs : List (List Packet)) → AllByRecu
 zip P Q R [] a b c f = tt
 zip P Q R (run ∷ runs) a b c f = (f run a.0 b.0 c.0, zip P Q R runs a.1 b.1 c.1 f)
 
-pub all_items : {segs : ℕ} (xs : List Packet) (items : List (List Packet)) → AllByRecursion IsCaptured xs → AreItems (IsMergeableWithin segs) is_of number_of xs items → AllByRecursion IsItem items
-all_items {segs} xs items captured i =
-    zip (λ run. 0 < length run) (λ run. (length run ≡ 1) ⊎ IsMergeableWithin segs run) (λ run. AllByRecursion IsCaptured run) items
+pub all_items : {limits : Limits} (xs : List Packet) (items : List (List Packet)) → AllByRecursion IsCaptured xs → AreItems (IsMergeableWithin limits) is_of number_of xs items → AllByRecursion IsItem items
+all_items {limits} xs items captured i =
+    zip (λ run. 0 < length run) (λ run. (length run ≡ 1) ⊎ IsMergeableWithin limits run) (λ run. AllByRecursion IsCaptured run) items
     i.full
-    (of_all (λ run. (length run ≡ 1) ⊎ IsMergeableWithin segs run) items i.full (λ key. (i.flows key).each))
+    (of_all (λ run. (length run ≡ 1) ⊎ IsMergeableWithin limits run) items i.full (λ key. (i.flows key).each))
     (of_all (λ run. AllByRecursion IsCaptured run) items i.full (λ key.
     each_run IsCaptured (filter (begins_in (is_of key)) items)
     (subst (λ z. AllByRecursion IsCaptured z) (sym (i.flows key).joined) (all_filtered IsCaptured (is_of key) xs captured))))
@@ -113,7 +114,7 @@ module _ (key : Option (List ℕ)) where
   back_queue : (segs : ℕ) (spread : Spread) (q : ℕ) (ps : List Packet) → AreCaptured ps → back (map (record_of q) (items_of segs spread q ps))
       ≡ map content (filter (is_of key) (filter (is_queued spread q) ps))
   back_queue segs spread q ps c =
-      let i : AreItems (IsMergeableWithin segs) is_of number_of (filter (is_queued spread q) ps) (items_of segs spread q ps) = items_are segs spread q ps c.rising in
+      let i : AreItems (IsMergeableWithin (up_to segs)) is_of number_of (filter (is_queued spread q) ps) (items_of segs spread q ps) = items_are segs spread q ps c.rising in
       back_items q (items_of segs spread q ps) (all_items (filter (is_queued spread q) ps) (items_of segs spread q ps) (all_filtered IsCaptured (is_queued spread q) ps c.each) i)
       ∙ ap (map content) (i.flows key).joined
 

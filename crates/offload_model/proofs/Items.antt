@@ -12,9 +12,10 @@ use Rattle.offload_model.specs.Laws.{HasOneCut}
 use Rattle.frame_layout.specs.Key.{key_eq, key_of}
 use Rattle.frame_layout.proofs.Lemmas.{decides_key}
 use Rattle.pcap_io.specs.Capture.{Packet}
-use Rattle.offload_model.specs.Mergeable.{IsMergeableWithin}
+use Rattle.offload_model.specs.Mergeable.{up_to, IsMergeableWithin}
+use Rattle.offload_model.specs.declared.limits.Limits.{Limits}
 use Rattle.offload_model.specs.Tests.{is_mergeable_within}
-use Rattle.offload_model.specs.Rounds.{Spread, key_in, is_of, is_queued, number_of, items_of}
+use Rattle.offload_model.specs.Rounds.{Spread, key_in, is_of, is_queued, number_of, items_of, runs_within}
 use Rattle.offload_model.specs.CaptureLaws.{ItemsAreRuns}
 use Rattle.offload_model.proofs.Lists.{all_of, rising_filtered}
 use Rattle.offload_model.proofs.Decides.{decides_within}
@@ -45,27 +46,37 @@ same_cut M N to from xs runs c = record {
   maximal = near_of (λ run next. M (run ++ take 1 next) → ⊥) (λ run next. N (run ++ take 1 next) → ⊥) runs (λ run next f m. f (from (run ++ take 1 next) m)) c.maximal;
 }
 
-pub items_are : (segs : ℕ) (spread : Spread) (q : ℕ) (ps : List Packet) → AllNeighbours (λ p q. p.number < q.number) ps
-    → AreItems (IsMergeableWithin segs) is_of number_of (filter (is_queued spread q) ps) (items_of segs spread q ps)
-items_are segs spread q ps rising =
-    let xs : List Packet = filter (is_queued spread q) ps in
-    let i : AreItems (λ run. is_mergeable_within segs run ≡ true) is_of number_of xs (items_of segs spread q ps) =
-    items_are_runs (is_mergeable_within segs) is_of key_in number_of xs are_flows (rising_filtered number_of (is_queued spread q) ps rising) in
+-- the runs of packets whose numbers rise, within any limits
+pub within_are : (limits : Limits) (ps : List Packet) → AllNeighbours (λ p q. p.number < q.number) ps
+    → AreItems (IsMergeableWithin limits) is_of number_of ps (runs_within limits ps)
+within_are limits ps rising =
+    let i : AreItems (λ run. is_mergeable_within limits run ≡ true) is_of number_of ps (runs_within limits ps) =
+    items_are_runs (is_mergeable_within limits) is_of key_in number_of ps are_flows rising in
     record {
       full = i.full;
-      flows = λ key. same_cut (λ run. is_mergeable_within segs run ≡ true) (IsMergeableWithin segs) (λ r. (decides_within segs r).0) (λ r. (decides_within segs r).1)
-          (filter (is_of key) xs) (filter (begins_in (is_of key)) (items_of segs spread q ps)) (i.flows key);
+      flows = λ key. same_cut (λ run. is_mergeable_within limits run ≡ true) (IsMergeableWithin limits) (λ r. (decides_within limits r).0) (λ r. (decides_within limits r).1)
+          (filter (is_of key) ps) (filter (begins_in (is_of key)) (runs_within limits ps)) (i.flows key);
       ordered = i.ordered;
     }
 
+-- and they alone
+pub within_alone : (limits : Limits) (ps : List Packet) (runs : List (List Packet)) → AllNeighbours (λ p q. p.number < q.number) ps
+    → AreItems (IsMergeableWithin limits) is_of number_of ps runs → runs ≡ runs_within limits ps
+within_alone limits ps runs rising i =
+    unique_items is_of number_of key_in (λ p. key_eq_self (key_of p.frame)) (IsMergeableWithin limits) (fronts_too limits) ps runs (runs_within limits ps) i (within_are limits ps rising)
+
+pub items_are : (segs : ℕ) (spread : Spread) (q : ℕ) (ps : List Packet) → AllNeighbours (λ p q. p.number < q.number) ps
+    → AreItems (IsMergeableWithin (up_to segs)) is_of number_of (filter (is_queued spread q) ps) (items_of segs spread q ps)
+items_are segs spread q ps rising =
+    within_are (up_to segs) (filter (is_queued spread q) ps) (rising_filtered number_of (is_queued spread q) ps rising)
+
 pub items_are_runs_alone : ItemsAreRuns
 items_are_runs_alone segs spread q ps items rising = (
-  λ i. unique_items is_of number_of key_in (λ p. key_eq_self (key_of p.frame)) (IsMergeableWithin segs) (fronts_too segs) (filter (is_queued spread q) ps) items
-      (items_of segs spread q ps) i (items_are segs spread q ps rising),
-  λ e. subst (AreItems (IsMergeableWithin segs) is_of number_of (filter (is_queued spread q) ps)) (sym e) (items_are segs spread q ps rising),
+  within_alone (up_to segs) (filter (is_queued spread q) ps) items (rising_filtered number_of (is_queued spread q) ps rising),
+  λ e. subst (AreItems (IsMergeableWithin (up_to segs)) is_of number_of (filter (is_queued spread q) ps)) (sym e) (items_are segs spread q ps rising),
 )
 
 pub one_cut : HasOneCut
-one_cut segs ps runs =
-    let own : IsCut (IsMergeableWithin segs) ps (cut_of (is_mergeable_within segs) ps) = one_pass (IsMergeableWithin segs) (is_mergeable_within segs) (decides_within segs) ps in
-    (λ c. unique (IsMergeableWithin segs) (fronts_too segs) ps runs (cut_of (is_mergeable_within segs) ps) c own, λ e. subst (IsCut (IsMergeableWithin segs) ps) (sym e) own)
+one_cut limits ps runs =
+    let own : IsCut (IsMergeableWithin limits) ps (cut_of (is_mergeable_within limits) ps) = one_pass (IsMergeableWithin limits) (is_mergeable_within limits) (decides_within limits) ps in
+    (λ c. unique (IsMergeableWithin limits) (fronts_too limits) ps runs (cut_of (is_mergeable_within limits) ps) c own, λ e. subst (IsCut (IsMergeableWithin limits) ps) (sym e) own)

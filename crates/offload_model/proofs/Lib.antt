@@ -17,12 +17,13 @@ pub mod Opened
 pub mod Records
 pub mod Lists
 pub mod Shown
+pub mod Within
 mod RunRecords
 pub mod Items
 pub mod Flows
 pub mod Rounding
 pub mod Needs
-mod Limits
+mod Lengths
 pub mod Passings
 pub mod Behind
 pub mod Steps

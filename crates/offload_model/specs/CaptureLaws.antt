@@ -8,7 +8,7 @@ use Rattle.pcap_io.specs.Capture.{Packet, Found, reads}
 use Rattle.pcap_io.specs.Headers.{any_head, fields_in, file_head}
 use Rattle.pcap_io.specs.declared.heads.FileHead.{FileHead}
 use Rattle.pcap_io.specs.declared.heads.Link.TheVariants.{Ethernet, Offload}
-use Rattle.offload_model.specs.Mergeable.{IsMergeable, IsMergeableWithin}
+use Rattle.offload_model.specs.Mergeable.{IsMergeable, up_to, IsMergeableWithin}
 use Rattle.offload_model.specs.Merged.{merged_of}
 use Rattle.offload_model.specs.Segments.{packet_in, segments_of, IsLawfulSuper}
 use Rattle.offload_model.specs.Rounds.{Spread, is_of, is_queued, number_of, items_of, runs_in}
@@ -64,7 +64,7 @@ abbrev pub ItemsAreRuns : Type 0
 ItemsAreRuns =
     (segs : ℕ) (spread : Spread) (q : ℕ) (ps : List Packet) (items : List (List Packet))
     → AllNeighbours (λ p q. p.number < q.number) ps
-    → AreItems (IsMergeableWithin segs) is_of number_of (filter (is_queued spread q) ps) items
+    → AreItems (IsMergeableWithin (up_to segs)) is_of number_of (filter (is_queued spread q) ps) items
     ↔ (items ≡ items_of segs spread q ps)
 
 -- the runs of a round are what they are whatever the queues: a queue's items are those of them that begin in it, in

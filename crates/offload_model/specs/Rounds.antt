@@ -4,6 +4,8 @@ use Rattle.std.specs.List.{filter}
 use Rattle.maximal_runs.specs.Items.{items_of as runs_of}
 use Rattle.frame_layout.specs.Key.{key_eq, key_of}
 use Rattle.pcap_io.specs.Capture.{Packet}
+use Rattle.offload_model.specs.Mergeable.{up_to}
+use Rattle.offload_model.specs.declared.limits.Limits.{Limits}
 use Rattle.offload_model.specs.Tests.{is_mergeable_within}
 
 -- from here on, where `more` elements still belong to the round that was begun before
@@ -33,9 +35,13 @@ is_queued spread q p = spread (key_of p.frame) == q
 abbrev pub number_of : Packet → ℕ
 number_of p = p.number
 
--- the runs of all flows of some packets, of at most `segs` packets each, in the order of their first packets' numbers
+-- the runs of all flows of some packets, within limits each, in the order of their first packets' numbers
+abbrev pub runs_within : Limits → List Packet → List (List Packet)
+runs_within limits ps = runs_of (is_mergeable_within limits) is_of key_in number_of ps
+
+-- the same of at most `segs` packets each
 abbrev pub runs_in : ℕ → List Packet → List (List Packet)
-runs_in segs ps = runs_of (is_mergeable_within segs) is_of key_in number_of ps
+runs_in segs ps = runs_within (up_to segs) ps
 
 -- those of queue q
 abbrev pub items_of : ℕ → Spread → ℕ → List Packet → List (List Packet)

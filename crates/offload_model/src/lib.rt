@@ -30,10 +30,11 @@
 //!   (`queues_keep_runs`, `choices_keep_items`).
 //! - **The items of a queue are defined without a loop**: each packet in turn gives the run of its flow's cut that it
 //!   begins, if it does.
-//! - **A run's bound on packets is a condition of its own** (`IsMergeableWithin segs`), beside those on all members
-//!   (`IsMergeable`). What is said of one run (it comes back, it is lawful, its boundaries are kept, it goes through
-//!   one tunnel) needs none. A run that the bound has filled stays the flow's last one in the table, refuses the next
-//!   packet, and that opens the next run.
+//! - **A run's limits are a condition of their own** (`IsMergeableWithin limits`), beside those on all members
+//!   (`IsMergeable`): how many packets it has at most, and how many bytes their merged frame has ([`Limits`]). The tool
+//!   bounds packets alone (`up_to`), and then no bound on bytes is felt (`limits_bound_frames`). What is said of one run
+//!   (it comes back, it is lawful, its boundaries are kept, it goes through one tunnel) needs none. A run that a limit
+//!   has filled stays the flow's last one in the table, refuses the next packet, and that opens the next run.
 //! - **Definitions that must not pass**: `must-fail/` of `maximal_runs` and `offload_model` edits definitions, since
 //!   there is no code in them.
 //! - **One table for all commands**: `Passes` has a row for each of four endings (stopped, read fault, write fault,
@@ -45,6 +46,7 @@
 
 mod captures;
 mod frames;
+mod limits;
 mod need;
 mod passing;
 mod rows;
@@ -59,6 +61,7 @@ pub use frames::{
     merged_frames_are_merged, merged_is_lawful, segment_frames_are_segments,
     segments_are_the_packets, segments_give_the_packets,
 };
+pub use limits::Limits;
 pub use need::{defaults_suffice, needs_add, needs_exceed, rounds_exceed};
 pub use passing::{
     blocks_suffice, commands_pass_on, commands_stop, merging_goes_by_round, prefixes_are_written,
@@ -66,4 +69,7 @@ pub use passing::{
     segments_grow, stops_are_one, stops_write_prefixes,
 };
 pub use rows::{need_rows_hold, rows_hold};
-pub use runs::{fronts_are_mergeable, grows_by_one, has_one_cut, tests_decide, tunnels_are_one};
+pub use runs::{
+    fronts_are_mergeable, grows_by_one, has_one_cut, limits_bound_frames, tests_decide,
+    tunnels_are_one,
+};

@@ -20,7 +20,7 @@ receive-requires-clause-places c =
 pub loop-i-preserved : goal.loop-i-preserved
 loop-i-preserved c =
     let ps : List Packet = map packet_of c.args.frames.now in (
-      received_one c.args.segs ps c.loop-i.i c.loop-i.engine c.receive.new.self c.loop-i.invariant.0
+      received_one c.args.limits ps c.loop-i.i c.loop-i.engine c.receive.new.self c.loop-i.invariant.0
           c.receive.ensures.takes c.requires.rising (omega (arith, c.loop-i-test.true, length-map c.args.frames.now packet_of)),
       (
         λ n p. c.receive.ensures.takes.places (length c.args.frames.now - (c.loop-i.i + 1) + n)
@@ -33,7 +33,7 @@ loop-i-preserved c =
 
 pub returns-clause-received : goal.returns-clause-received
 returns-clause-received c =
-    subst (λ (z : ℕ). HasReceived c.args.segs (map packet_of c.args.frames.now) z c.loop-i.engine)
+    subst (λ (z : ℕ). HasReceived c.args.limits (map packet_of c.args.frames.now) z c.loop-i.engine)
     (let e : c.loop-i.i ≡ length c.args.frames.now = omega (arith, c.loop-i.auto.i-end, c.requires.inside) in e)
     c.loop-i.invariant.0
 

@@ -6,6 +6,6 @@ use Rattle.frame_bursts.proofs.kept.receive_behind.Given as goal
 -- the first i frames are received, and as many places were taken
 abbrev pub invariant-loop-i : goal.invariant-loop-i
 invariant-loop-i l =
-    HasReceived l.segs (map packet_of l.frames) l.i l.engine
+    HasReceived l.limits (map packet_of l.frames) l.i l.engine
     × (((n : ℕ) → HasPlaces l.fn.engine (length l.frames - l.from + n) → HasPlaces l.engine (length l.frames - l.i + n))
     × (length l.engine.next.items ≡ length l.fn.engine.next.items))

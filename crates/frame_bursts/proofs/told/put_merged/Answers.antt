@@ -18,11 +18,11 @@ put_runs-requires-clause-room c =
     )
 
 pub returns-clause-merges : goal.returns-clause-merges
-returns-clause-merges c = λ segs runs.
+returns-clause-merges c = λ limits runs.
     let fs = c.args.frames.now in
     let e = c.args.engine.now in
     let n : length (map packet_of fs) ≡ length fs = length-map fs packet_of in
-    merged segs (map packet_of fs) e _ c.put_runs.new.runs
+    merged limits (map packet_of fs) e _ c.put_runs.new.runs
     (subst (λ (z : ℕ). AreRuns (map packet_of fs) z e) (sym n) c.requires.are) runs
     (λ k h. copied (length fs) e.next.items c.deref.result.now c.copy_from_slice.new.self
     (drop (length fs) c.args.next.now) c.deref.ensures.value c.copy_from_slice.ensures.after
@@ -31,6 +31,6 @@ returns-clause-merges c = λ segs runs.
     c.put_runs.ensures.told c.len.result (omega (arith, c.len.ensures, e.runs.ok.0))
 
 pub returns-clause-back : goal.returns-clause-back
-returns-clause-back c = λ segs runs.
-    all_come_back segs (map packet_of c.args.frames.now) _ _ c.runs_come_back.ensures.law
-    (returns-clause-merges c segs runs) c.requires.captured
+returns-clause-back c = λ limits runs.
+    all_come_back limits (map packet_of c.args.frames.now) _ _ c.runs_come_back.ensures.law
+    (returns-clause-merges c limits runs) c.requires.captured

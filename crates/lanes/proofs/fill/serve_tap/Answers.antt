@@ -1,9 +1,6 @@
-use Rattle.std.proofs.Common.{◌+◌, inl, inr, map, arith}
-use Rattle.std.specs.Prelude.{[]}
+use Rattle.std.proofs.Common.{◌+◌, map, arith}
 use Rattle.frags.specs.Account.{every}
 use Rattle.gro.specs.Slots.{packet_of}
-use Rattle.lanes.specs.Taps.{HasClones}
-use Rattle.lanes.specs.Work.{shown_by, IsWatched, MayWatch}
 use Rattle.lanes.proofs.Adding.{after_none, after_later}
 use Rattle.lanes.proofs.Idle.{idle_tap, ready_tap}
 use Rattle.lanes.proofs.Reading.{may_clone, may_read}

@@ -1,9 +1,10 @@
-use Rattle.std.proofs.Common.{List, map, length, sym, subst, ap, arith, ◌≡◌, refl}
+use Rattle.std.proofs.Common.{List, map, length, sym, subst, ap, ◌∙◌, arith, ◌≡◌, refl}
 use Rattle.gro.specs.declared.slot.Slot.{Slot}
 use Rattle.frame_runs.specs.Engine.{DoRise, IsReady, runs_of, AreRuns}
 use Rattle.gro.specs.Slots.{packet_of, AreHeld}
 use Rattle.lanes.proofs.Merging.{do_rise}
-use Rattle.offload_model.specs.Rounds.{runs_in}
+use Rattle.offload_model.specs.Rounds.{runs_in, runs_within}
+use Rattle.offload_model.specs.declared.limits.Limits.{Limits}
 use Rattle.lanes.proofs.working.work.Goals as goal
 
 pub merge-requires-clause-ready : goal.merge-requires-clause-ready
@@ -26,7 +27,8 @@ returns g c =
       did = record {
         queue = refl;
         packets = refl;
-        runs = subst (λ (z : List Slot). runs_of (map packet_of z) engine ≡ runs_in c.args.segs (map packet_of z)) c.slots.ensures.slots c.merge.ensures.runs;
+        runs = subst (λ (z : List Slot). runs_of (map packet_of z) engine ≡ runs_in c.args.segs (map packet_of z)) c.slots.ensures.slots
+            (c.merge.ensures.runs ∙ ap (λ (z : Limits). runs_within z (map packet_of c.slots.result.now)) c.up_to-limits.ensures.limits);
         is = record {
           held = c.requires.filled.held;
           are = subst (λ (z : List Slot). AreRuns (map packet_of z) (length z) engine) c.slots.ensures.slots c.merge.ensures.are;

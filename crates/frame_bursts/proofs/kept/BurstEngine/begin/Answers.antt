@@ -9,7 +9,7 @@ returns-then-self-gt0-clause-begun c = λ t.
     let g = c.args.self.now in
     let ps = map packet_of c.args.frames.now in
     record {
-      received = received_front g.segs g.received g.engine ps (c.requires.holds.runs c.if-self-gt0.true)
+      received = received_front g.limits g.received g.engine ps (c.requires.holds.runs c.if-self-gt0.true)
           (omega (arith, c.requires.few, length-map c.args.frames.now packet_of))
           (omega (arith, c.requires.room, c.requires.holds.linked c.if-self-gt0.true, length-map c.args.frames.now packet_of));
       places = c.requires.holds.places c.if-self-gt0.true;

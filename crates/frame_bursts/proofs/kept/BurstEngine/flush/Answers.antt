@@ -10,8 +10,8 @@ returns-clause-merges c =
     let g = c.args.self.now in
     let holds : Holds (map packet_of c.args.frames.now) g = c.requires.holds (omega (arith, c.if-n-self.false)) in
     let some : 1 ≤ g.received = omega (arith, c.if-n-self.false, c.if-n-eq0.false) in
-    c.put_merged-count.ensures.merges g.segs
-    (all_received g.segs (map packet_of c.args.frames.now) g.received g.engine (holds.runs some)
+    c.put_merged-count.ensures.merges g.limits
+    (all_received g.limits (map packet_of c.args.frames.now) g.received g.engine (holds.runs some)
     (omega (arith, c.if-n-self.false, length-map c.args.frames.now packet_of)) holds.captured.rising)
 
 pub returns-clause-back : goal.returns-clause-back
@@ -19,6 +19,6 @@ returns-clause-back c =
     let g = c.args.self.now in
     let holds : Holds (map packet_of c.args.frames.now) g = c.requires.holds (omega (arith, c.if-n-self.false)) in
     let some : 1 ≤ g.received = omega (arith, c.if-n-self.false, c.if-n-eq0.false) in
-    c.put_merged-count.ensures.back g.segs
-    (all_received g.segs (map packet_of c.args.frames.now) g.received g.engine (holds.runs some)
+    c.put_merged-count.ensures.back g.limits
+    (all_received g.limits (map packet_of c.args.frames.now) g.received g.engine (holds.runs some)
     (omega (arith, c.if-n-self.false, length-map c.args.frames.now packet_of)) holds.captured.rising)

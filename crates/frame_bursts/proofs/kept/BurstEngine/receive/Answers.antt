@@ -1,5 +1,6 @@
-use Rattle.std.proofs.Common.{◌≡◌, ◌+◌, ◌-◌, length, refl, subst, arith}
+use Rattle.std.proofs.Common.{◌≡◌, ◌+◌, ◌-◌, ◌≤◌, length, refl, sym, subst, arith}
 use Rattle.std.proofs.lemmas.List.{length-map}
+use Rattle.offload_model.specs.declared.limits.Limits.{Limits}
 use Rattle.frame_runs.specs.Engine.{HasPlaces}
 use Rattle.frame_runs.specs.Lent.{packet_of}
 use Rattle.frame_bursts.proofs.Rising.{all_short}
@@ -21,7 +22,7 @@ returns-clause-received c =
       captured = c.if-not-are_frames.ensures.frames.0 refl;
       numbers = (
         omega (arith, same.1.0, before.numbers.0),
-        (omega (arith, same.1.1, before.numbers.1.0), omega (arith, same.1.1, before.numbers.1.1)),
+        subst (λ (z : Limits). (1 ≤ z.segs) × (z.segs ≤ 4096)) (sym same.1.1) before.numbers.1,
       );
       few = omega (arith, same.1.0, few);
       linked = λ some. omega (arith, ready.linked, c.receive_behind.ensures.linked);

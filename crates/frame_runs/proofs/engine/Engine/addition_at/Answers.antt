@@ -28,7 +28,7 @@ returns g c =
     let is = run_is ps 0 c.args.place a old c.requires.each c.requires.inside c.index-run.ensures (g.F.Frame.packet first) at_first in
     let key : Option (List ℕ) = key_of (g.F.Frame.packet c.args.slot.now).frame in
     record {
-      takes = if_some _ _ c.addition_within.result (λ a t. subst (λ (z : List Packet). IsMergeableWithin c.args.segs (z ++ (x ∷ []))) (sym is) (t rest k)) c.addition_within.ensures.takes;
+      takes = if_some _ _ c.addition_within.result (λ a t. subst (λ (z : List Packet). IsMergeableWithin c.args.limits (z ++ (x ∷ []))) (sym is) (t rest k)) c.addition_within.ensures.takes;
       added = c.addition_within.ensures.added;
       flow = if_some _ _ c.addition_within.result (λ a t. ap (begins_in (is_of key)) is ∙ ap (key_eq key) (sym t) ∙ key_eq_self key) c.addition_within.ensures.flow;
     }

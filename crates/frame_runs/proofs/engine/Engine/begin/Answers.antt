@@ -23,7 +23,7 @@ returns g c =
     let own : IsGroup ps group x = (omega (arith, c.requires.here.0, length-map c.args.packets.now g.F.Frame.packet), c.requires.here.1, c.requires.hash) in
     let puts = c.begin.ensures.puts ps c.requires.runs.flows own c.requires.none in
     record {
-      takes = λ segs. begins_run segs ps c.args.i a b c.open.result c.requires.runs c.push_reserved.ensures.items refl
+      takes = λ limits. begins_run limits ps c.args.i a b c.open.result c.requires.runs c.push_reserved.ensures.items refl
           (omega (arith, c.requires.here.0, length-map c.args.packets.now g.F.Frame.packet))
           c.open.ensures.indices.0 c.open.ensures.indices.1 c.open.ensures.indices.2
           (subst (λ z. Knows c.open.result z []) (sym c.requires.here.1) (c.open.ensures.knows x c.requires.judged c.requires.progress))

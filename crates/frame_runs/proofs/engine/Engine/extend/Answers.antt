@@ -16,7 +16,7 @@ returns g c =
     let own : IsOwn ps c.link-is_open.new.self.flows key c.args.place
     = subst (λ (z : Flows). IsOwn ps z key c.args.place) (sym c.link-is_open.ensures.grows.flows) (own_by ps a key c.args.place c.requires.runs.index c.requires.found) in
     record {
-      takes = λ segs m. taken_by segs ps c.args.i c.args.place c.link-is_open.result a c.link-is_open.new.self c.settle.new.flows c.requires.runs
+      takes = λ limits m. taken_by limits ps c.args.i c.args.place c.link-is_open.result a c.link-is_open.new.self c.settle.new.flows c.requires.runs
           c.requires.inside
           c.link-is_open.ensures.grows (g.F.Frame.packet c.args.slot.now) c.requires.here.1 key refl c.requires.found m
           c.open_at-self.result c.open_at-self.ensures.place

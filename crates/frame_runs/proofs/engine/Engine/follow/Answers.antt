@@ -25,7 +25,7 @@ returns g c =
     let own : IsOwn ps a.flows key c.args.found = own_by ps a key c.args.found c.requires.runs.index c.requires.place in
     let puts = c.follow.ensures.puts ps c.requires.runs.flows is own in
     record {
-      takes = λ segs apart. begins_run segs ps c.args.i a b c.open.result c.requires.runs c.push_reserved.ensures.items refl
+      takes = λ limits apart. begins_run limits ps c.args.i a b c.open.result c.requires.runs c.push_reserved.ensures.items refl
           (omega (arith, c.requires.here.0, length-map c.args.packets.now g.F.Frame.packet))
           c.open.ensures.indices.0 c.open.ensures.indices.1 c.open.ensures.indices.2
           (subst (λ z. Knows c.open.result z []) (sym c.requires.here.1) (c.open.ensures.knows x c.requires.judged c.requires.progress))
@@ -35,6 +35,6 @@ returns g c =
           (λ j e m.
           let t : Some j ≡ Some c.args.found = sym e ∙ c.requires.place in
           let s : j ≡ c.args.found = cc in
-          apart (subst (λ (z : ℕ). IsMergeableWithin segs (get_or (runs_of ps a) z [] ++ (x ∷ []))) s m))
+          apart (subst (λ (z : ℕ). IsMergeableWithin limits (get_or (runs_of ps a) z [] ++ (x ∷ []))) s m))
           (subst (λ (z : Progress). c.open_at-self.result ≡ (if z.is_open then Some c.len-place.result else None)) same c.open_at-self.ensures.place);
     }

@@ -22,7 +22,7 @@ returns g c =
     let own : IsOwn ps b.flows key c.args.found
     = subst (λ (z : Flows). IsOwn ps z key c.args.found) (sym c.link-is_open.ensures.grows.flows) (own_by ps a key c.args.found c.requires.runs.index c.requires.place) in
     record {
-      takes = λ segs m. taken_by segs ps c.args.i c.args.found c.link-is_open.result a b c.keep.new.self c.requires.runs
+      takes = λ limits m. taken_by limits ps c.args.i c.args.found c.link-is_open.result a b c.keep.new.self c.requires.runs
           (found_inside ps a key c.args.found c.requires.runs.index c.requires.place)
           c.link-is_open.ensures.grows x c.requires.here.1 key refl c.requires.place m
           c.open_at-self.result c.open_at-self.ensures.place (c.keep.ensures.flows ps flows own) (c.keep.ensures.puts ps flows own)

@@ -9,7 +9,7 @@ pub extend-requires-clause-found : goal.extend-requires-clause-found
 extend-requires-clause-found g c = latest_finds (map g.F.Frame.packet c.args.packets.now) c.args.i c.args.self.now c.in-Some.place c.requires.runs c.in-Some.is _ c.in-Some-addition_at.ensures.flow
 
 pub returns-in-Some-addition_at : goal.returns-in-Some-addition_at
-returns-in-Some-addition_at g c = record { takes = c.extend.ensures.takes c.args.segs c.in-Some-addition_at.ensures.takes }
+returns-in-Some-addition_at g c = record { takes = c.extend.ensures.takes c.args.limits c.in-Some-addition_at.ensures.takes }
 
 pub extend-requires-clause-inside : goal.extend-requires-clause-inside
 extend-requires-clause-inside g c = latest_inside (map g.F.Frame.packet c.args.packets.now) c.args.i c.args.self.now c.in-Some.place c.requires.runs c.in-Some.is

@@ -4,7 +4,7 @@ use Rattle.merge_rule.specs.Runs.{IsJudged}
 use Rattle.frame_runs.proofs.engine.Engine.receive_apart.Goals as goal
 
 pub returns-then-is_refused : goal.returns-then-is_refused
-returns-then-is_refused g c = record { takes = c.stand_alone.ensures.takes c.args.segs }
+returns-then-is_refused g c = record { takes = c.stand_alone.ensures.takes c.args.limits }
 
 pub stand_alone-requires-then-is_apart-clause-alone : goal.stand_alone-requires-then-is_apart-clause-alone
 stand_alone-requires-then-is_apart-clause-alone g c =
@@ -13,4 +13,4 @@ stand_alone-requires-then-is_apart-clause-alone g c =
     (c.is_apart.ensures.layout c.if-is_apart.true) c.judge-candidacy.ensures.judged
 
 pub returns-then-is_apart : goal.returns-then-is_apart
-returns-then-is_apart g c = record { takes = c.stand_alone-then-is_apart.ensures.takes c.args.segs }
+returns-then-is_apart g c = record { takes = c.stand_alone-then-is_apart.ensures.takes c.args.limits }

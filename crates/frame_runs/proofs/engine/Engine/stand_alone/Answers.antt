@@ -16,7 +16,7 @@ returns g c =
     let x : Packet = g.F.Frame.packet c.args.slot.now in
     let b : Engine = record { runs = c.push_reserved.new.self; next = a.next; flows = a.flows; last = None } in
     record {
-      takes = λ segs. opens_alone segs ps c.args.i a b c.alone.result c.requires.runs c.push_reserved.ensures.items refl
+      takes = λ limits. opens_alone limits ps c.args.i a b c.alone.result c.requires.runs c.push_reserved.ensures.items refl
           (omega (arith, c.requires.here.0, length-map c.args.packets.now g.F.Frame.packet))
           c.alone.ensures.indices.0 c.alone.ensures.indices.1 c.alone.ensures.indices.2
           (subst (λ z. Knows c.alone.result z []) (sym c.requires.here.1) (c.alone.ensures.knows x c.requires.alone))

@@ -28,7 +28,7 @@ returns g c =
     let is = run_is ps 0 c.args.place a old c.requires.each c.requires.inside c.index-run.ensures (g.F.Frame.packet first) at_first in
     let key : Option (List ℕ) = key_of (g.F.Frame.packet c.args.slot.now).frame in
     record {
-      takes = subst (λ (z : List Packet). Decides c.takes_within.result (IsMergeableWithin c.args.segs (z ++ (x ∷ [])))) (sym is) (c.takes_within.ensures.takes rest k);
+      takes = subst (λ (z : List Packet). Decides c.takes_within.result (IsMergeableWithin c.args.limits (z ++ (x ∷ [])))) (sym is) (c.takes_within.ensures.takes rest k);
       flow = λ t. ap (begins_in (is_of key)) is ∙ ap (key_eq key) (sym (c.takes_within.ensures.flow t)) ∙ key_eq_self key;
     }
 

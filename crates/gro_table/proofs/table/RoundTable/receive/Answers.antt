@@ -2,6 +2,8 @@ use Rattle.std.proofs.Common.{◌-◌, ◌<◌, ◌≤◌, ℕ, ◌+◌, List, l
 use Rattle.gro_table.specs.Held.{count_of}
 use Rattle.gro.specs.declared.slot.Slot.{Slot}
 use Rattle.gro.specs.Slots.{packet_of, AreHeld}
+use Rattle.offload_model.specs.Mergeable.{up_to}
+use Rattle.offload_model.specs.declared.limits.Limits.{Limits}
 use Rattle.frame_runs.specs.Engine.{AreRuns, Takes}
 use Rattle.gro_table.specs.Waiting.{held_in}
 use Rattle.gro_table.specs.Table.{TableState, counts_in}
@@ -57,7 +59,8 @@ invariant_of-self c =
     let fits : i.received < i.limit = omega (arith, c.requires.room, ap (λ (t : TableState). t.received) c.self.view_is, ap (λ (t : TableState). t.limit) c.self.view_is) in
     table_more i.segs i.list c.push.new.self i.engine c.args.packet i.limit i.received i.above i.count c.self.invariant
     c.push.ensures.slots c.push.ensures.spares c.weigh-count.ensures.held rising fits c.receive.new.self
-    (subst (λ (z : List Slot). Takes i.segs (map packet_of z) i.received i.engine c.receive.new.self) c.deref.ensures.value c.receive.ensures.takes)
+    (subst (λ (z : List Slot). Takes (up_to i.segs) (map packet_of z) i.received i.engine c.receive.new.self) c.deref.ensures.value
+    (subst (λ (z : Limits). Takes z (map packet_of c.deref.result.now) i.received i.engine c.receive.new.self) c.up_to-limits.ensures.limits c.receive.ensures.takes))
     c.weigh-count.result c.weigh-count.ensures.count c.weigh-count.ensures.few c.push.ensures.room
 
 pub returns-clause-received : goal.returns-clause-received
@@ -67,7 +70,8 @@ returns-clause-received c =
     let fits : i.received < i.limit = omega (arith, c.requires.room, ap (λ (t : TableState). t.received) c.self.view_is, ap (λ (t : TableState). t.limit) c.self.view_is) in
     received_more i.segs i.list c.push.new.self i.engine c.args.packet i.limit i.received i.above i.count c.self.invariant
     c.push.ensures.slots c.push.ensures.spares c.weigh-count.ensures.held rising fits c.receive.new.self
-    (subst (λ (z : List Slot). Takes i.segs (map packet_of z) i.received i.engine c.receive.new.self) c.deref.ensures.value c.receive.ensures.takes)
+    (subst (λ (z : List Slot). Takes (up_to i.segs) (map packet_of z) i.received i.engine c.receive.new.self) c.deref.ensures.value
+    (subst (λ (z : Limits). Takes z (map packet_of c.deref.result.now) i.received i.engine c.receive.new.self) c.up_to-limits.ensures.limits c.receive.ensures.takes))
     c.args.self.now (record { runs = held_in c.push.new.self c.receive.new.self; limit = i.limit; received = i.received + 1; above = c.args.packet.number + 1; segs = i.segs })
     (sym (ap (λ (t : TableState). t.runs) c.self.view_is)) refl (sym (ap (λ (t : TableState). t.above) c.self.view_is)) refl
     (ap (λ (t : TableState). t.received + 1) c.self.view_is) (sym (ap (λ (t : TableState). t.segs) c.self.view_is)) refl
@@ -80,5 +84,6 @@ returns-clause-count c =
     counts_totals (held_in c.push.new.self c.receive.new.self)
     ∙ sums_now i.segs i.list c.push.new.self i.engine c.args.packet i.limit i.received i.above i.count c.self.invariant
     c.push.ensures.slots c.push.ensures.spares c.weigh-count.ensures.held rising fits c.receive.new.self
-    (subst (λ (z : List Slot). Takes i.segs (map packet_of z) i.received i.engine c.receive.new.self) c.deref.ensures.value c.receive.ensures.takes) count_of
+    (subst (λ (z : List Slot). Takes (up_to i.segs) (map packet_of z) i.received i.engine c.receive.new.self) c.deref.ensures.value
+    (subst (λ (z : Limits). Takes z (map packet_of c.deref.result.now) i.received i.engine c.receive.new.self) c.up_to-limits.ensures.limits c.receive.ensures.takes)) count_of
     ∙ ap (λ (n : ℕ). n + count_of c.args.packet) (sym (counts_totals (held_in i.list i.engine)) ∙ ap (λ (t : TableState). counts_in t.runs) c.self.view_is)
