@@ -21,11 +21,11 @@ use Rattle.rounds.specs.Reading.{GivesRound, PassesRound}
 use Rattle.rounds.specs.RoundOf.{Brought, Came, Grows, IsBegun}
 use Rattle.rounds.specs.RoundsState.{ReadingState, RoundState}
 use Rattle.rounds.specs.Weights.{weights_of}
-use Rattle.rounds.specs.declared.round.Halt.{Halt}
-use Rattle.rounds.specs.declared.round.Halt.TheVariants.{Ended, Lacking}
-use Rattle.rounds.specs.declared.round.RoundEnd.{RoundEnd}
-use Rattle.rounds.specs.declared.round.RoundEnd.TheVariants as ends
-use Rattle.rounds.specs.declared.round.RoundRead.{RoundRead}
+use Rattle.rounds.specs.declared.round_stages.Halt.{Halt}
+use Rattle.rounds.specs.declared.round_stages.Halt.TheVariants.{Ended, Lacking}
+use Rattle.rounds.specs.declared.round_stages.RoundEnd.{RoundEnd}
+use Rattle.rounds.specs.declared.round_stages.RoundEnd.TheVariants as ends
+use Rattle.rounds.specs.declared.round_stages.RoundRead.{RoundRead}
 use Rattle.rounds.proofs.Pausing.{ended_same, loses_head, no_memory_fault, no_memory_full}
 use Rattle.ahead.specs.Ahead.{round_of, FillsAhead, FillsRound, GivesBehind, IfPaused, IsAheadOf, Lacks, NumbersOn, NumberedTo, Waits}
 use Rattle.ahead.specs.declared.paused.ReadAhead.{ReadAhead}

@@ -15,14 +15,14 @@ use Rattle.rounds.specs.Filling.{Reached}
 use Rattle.rounds.specs.Reading.{GivesRound, PassesRound}
 use Rattle.reading.specs.Reading.{KeepsHead, Passes}
 use Rattle.rounds.specs.RoundsState.{ReadingState, RoundState}
-use Rattle.rounds.specs.declared.round.Halt.{Halt}
-use Rattle.rounds.specs.declared.round.Halt.TheVariants as halts
+use Rattle.rounds.specs.declared.round_stages.Halt.{Halt}
+use Rattle.rounds.specs.declared.round_stages.Halt.TheVariants as halts
 use Rattle.ahead.specs.PausedState.{PausedState as Paused}
 use Rattle.ahead.specs.declared.paused.ReadAhead.{ReadAhead}
 use Rattle.ahead.specs.declared.paused.ReadAhead.TheVariants as aheads
-use Rattle.rounds.specs.declared.round.RoundEnd.{RoundEnd}
-use Rattle.rounds.specs.declared.round.RoundEnd.TheVariants as ends
-use Rattle.rounds.specs.declared.round.RoundRead.{RoundRead}
+use Rattle.rounds.specs.declared.round_stages.RoundEnd.{RoundEnd}
+use Rattle.rounds.specs.declared.round_stages.RoundEnd.TheVariants as ends
+use Rattle.rounds.specs.declared.round_stages.RoundRead.{RoundRead}
 
 -- what was read, whole or not
 abbrev pub round_of : ReadAhead → RoundState

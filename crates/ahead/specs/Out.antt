@@ -5,7 +5,7 @@ use Rattle.block_pool.specs.PoolState.{PoolState}
 use Rattle.block_supply.specs.Lists.{weights_home}
 use Rattle.ahead.specs.declared.paused.ReadAhead.{ReadAhead}
 use Rattle.ahead.specs.declared.paused.ReadAhead.TheVariants as ahead
-use Rattle.rounds.specs.declared.round.RoundEnd.TheVariants as ends
+use Rattle.rounds.specs.declared.round_stages.RoundEnd.TheVariants as ends
 use Rattle.rounds.specs.RoundOf.{Brought}
 use Rattle.rounds.specs.RoundsState.{WorkedState}
 use Rattle.rounds.specs.Weights.{weights_worked}

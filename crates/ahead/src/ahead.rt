@@ -28,7 +28,7 @@ ghost use Rattle.ahead.specs.Ahead.{round_of, FillsAhead, FillsRound, GivesBehin
 ghost use Rattle.ahead.specs.Ahead.{NumbersOn, ReadsAhead, Waits};
 ghost use Rattle.ahead.specs.Out.{blocks_out, brought_listed, weights_out, GaveWorked};
 
-use crate::lists::{ListName, NextLists};
+use crate::next_lists::{ListName, NextLists};
 use crate::paused::{Paused, ReadAhead};
 use block_pool::Giver;
 use block_supply::{AllHome, Supply, Taker, open_lists};

@@ -21,8 +21,8 @@
 //! let (worked, next) = work_and_read(&mut rounds, &rt, &mut works, round, &mut reader);
 //! ```
 //!
-//! Its parts: `ahead` (both calls) on `lists` (the lists that the side that reads takes) and `paused` (what was read
-//! meanwhile: a round, or one that goes on).
+//! Its parts: `ahead` (both calls) on `next_lists` (the lists that the side that reads takes) and `paused` (what was
+//! read meanwhile: a round, or one that goes on).
 //!
 //! Tests: `engine_tests`, modules `reading_beside::beside_work` and `reading_beside::refused`.
 //!
@@ -39,7 +39,7 @@
 #![tactic(auto)]
 
 mod ahead;
-mod lists;
+mod next_lists;
 mod paused;
 
 pub use ahead::{read_rest, work_and_read};

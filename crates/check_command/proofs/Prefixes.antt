@@ -17,8 +17,8 @@ use Rattle.check_totals.specs.Counts.{Counts, totals_of}
 use Rattle.check_totals.specs.Lines.{check_lines}
 use Rattle.check_totals.specs.Checking.{counting, checking, checking_whole}
 use Rattle.check_totals.specs.Tallies.{Tallies, TotalsAreTold}
-use Rattle.checking.specs.declared.capture.CheckEnd.{CheckEnd}
-use Rattle.checking.specs.declared.capture.CheckEnd.TheVariants as ends
+use Rattle.checking.specs.declared.counting.CheckEnd.{CheckEnd}
+use Rattle.checking.specs.declared.counting.CheckEnd.TheVariants as ends
 use Rattle.checking.specs.Handling.{ending_of as check_ending}
 use Rattle.offload_words.specs.declared.merge.MergeOptions.{MergeOptions}
 use Rattle.command_answers.specs.declared.status.Status.{Status}

@@ -8,8 +8,8 @@ use Rattle.check_totals.specs.Counts.{Counts, totals_of}
 use Rattle.check_totals.specs.Lines.{check_lines, made_line}
 use Rattle.check_totals.specs.Checking.{counting}
 use Rattle.check_totals.specs.Tallies.{Tallies}
-use Rattle.checking.specs.declared.capture.CheckEnd.{CheckEnd}
-use Rattle.checking.specs.declared.capture.CheckEnd.TheVariants as ends
+use Rattle.checking.specs.declared.counting.CheckEnd.{CheckEnd}
+use Rattle.checking.specs.declared.counting.CheckEnd.TheVariants as ends
 use Rattle.checking.specs.Handling.{ending_of as check_ending}
 use Rattle.command_answers.specs.declared.status.Status.{Status}
 use Rattle.command_answers.specs.declared.status.Status.TheVariants as statuses

@@ -13,9 +13,9 @@ use Rattle.gro.specs.Slots.{packet_of}
 use Rattle.check_totals.specs.Counts.{Counts, added, round_totals, totals_of, HasLanes}
 use Rattle.check_totals.specs.Checking.{counting}
 use Rattle.check_totals.specs.Tallies.{Tallies}
-use Rattle.rounds.specs.declared.round.RoundEnd.{RoundEnd}
-use Rattle.rounds.specs.declared.round.RoundEnd.TheVariants as rounds
-use Rattle.rounds.specs.declared.round.RoundRead.{RoundRead}
+use Rattle.rounds.specs.declared.round_stages.RoundEnd.{RoundEnd}
+use Rattle.rounds.specs.declared.round_stages.RoundEnd.TheVariants as rounds
+use Rattle.rounds.specs.declared.round_stages.RoundRead.{RoundRead}
 use Rattle.rounds.specs.Merging.{options_of, TakesBehind, TakesTo}
 use Rattle.rounds.specs.RoundsState.{RoundsState}
 use Rattle.rounds.proofs.Merging.{fewer_by, is_short}
@@ -26,8 +26,8 @@ use Rattle.rounds.specs.Reads.{Spot, ReadRound, Reads, is_full}
 use Rattle.rounds.proofs.Rows.{reads_lose}
 use Rattle.checking.specs.Whole.{Checked}
 use Rattle.checking.specs.Handling.{ending_of, Ahead, AreOf, CountsLast, CountsRound, EndsBehind}
-use Rattle.checking.specs.declared.capture.CheckEnd.{CheckEnd}
-use Rattle.checking.specs.declared.capture.CheckEnd.TheVariants as ends
+use Rattle.checking.specs.declared.counting.CheckEnd.{CheckEnd}
+use Rattle.checking.specs.declared.counting.CheckEnd.TheVariants as ends
 use Rattle.checking.proofs.RoundsCounted.{ahead_none, goes_then, ends_then, taken_then, full_given, end_given, malformed_given, fault_given, empty_given}
 use Rattle.checking.proofs.RoundsCounted.{more_lanes, end_within, start_lanes}
 

@@ -37,11 +37,11 @@ use Rattle.rounds.proofs.Merging.{both_told}
 use Rattle.rounds.proofs.Needs.{takes_on, StopsAt}
 use Rattle.rounds.specs.Reading.{GivesRound, Holds, Exceeds}
 use Rattle.reading.specs.Reading.{Passes as PassesRecords}
-use Rattle.rounds.specs.declared.round.RoundEnd.{RoundEnd}
-use Rattle.rounds.specs.declared.round.RoundEnd.TheVariants as rounds
+use Rattle.rounds.specs.declared.round_stages.RoundEnd.{RoundEnd}
+use Rattle.rounds.specs.declared.round_stages.RoundEnd.TheVariants as rounds
 use Rattle.checking.specs.Handling.{ending_of, CountsLast, Ahead, EndsBehind, AreOf}
-use Rattle.checking.specs.declared.capture.CheckEnd.{CheckEnd}
-use Rattle.checking.specs.declared.capture.CheckEnd.TheVariants as ends
+use Rattle.checking.specs.declared.counting.CheckEnd.{CheckEnd}
+use Rattle.checking.specs.declared.counting.CheckEnd.TheVariants as ends
 
 -- ---- rounds in a row
 

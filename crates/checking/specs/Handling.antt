@@ -14,13 +14,13 @@ use Rattle.offload_model.specs.Written.{Options}
 use Rattle.check_totals.specs.Counts.{Counts, added, HasLanes, IsWithin}
 use Rattle.check_totals.specs.Checking.{counting}
 use Rattle.check_totals.specs.Tallies.{CountsOn, Tallies}
-use Rattle.rounds.specs.declared.round.RoundEnd.{RoundEnd}
-use Rattle.rounds.specs.declared.round.RoundEnd.TheVariants as read_ends
+use Rattle.rounds.specs.declared.round_stages.RoundEnd.{RoundEnd}
+use Rattle.rounds.specs.declared.round_stages.RoundEnd.TheVariants as read_ends
 use Rattle.rounds.specs.Benches.{options_at, BringsBeside, IsLent, IsRead, Lends, MayBring}
 use Rattle.rounds.specs.RoundsState.{BenchState, RoundState}
 use Rattle.rounds.specs.Weights.{weights_of}
-use Rattle.checking.specs.declared.capture.CheckEnd.{CheckEnd}
-use Rattle.checking.specs.declared.capture.CheckEnd.TheVariants as ends
+use Rattle.checking.specs.declared.counting.CheckEnd.{CheckEnd}
+use Rattle.checking.specs.declared.counting.CheckEnd.TheVariants as ends
 
 abbrev pub ending_of : CheckEnd → Ending
 ending_of ends.Done = Stopped Nowhere

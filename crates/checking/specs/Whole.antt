@@ -10,8 +10,8 @@ use Rattle.check_totals.specs.Tallies.{Tallies}
 use Rattle.rounds.specs.Handled.{Drawn, FewPauses}
 use Rattle.rounds.specs.Merging.{options_of, TakesTo}
 use Rattle.rounds.specs.RoundsState.{RoundsState}
-use Rattle.checking.specs.declared.capture.CheckEnd.{CheckEnd}
-use Rattle.checking.specs.declared.capture.CheckEnd.TheVariants as ends
+use Rattle.checking.specs.declared.counting.CheckEnd.{CheckEnd}
+use Rattle.checking.specs.declared.counting.CheckEnd.TheVariants as ends
 use Rattle.checking.specs.Handling.{ending_of}
 
 -- Checking began at this place and ended so: what the source had left and has left, and what was counted.

@@ -35,7 +35,7 @@
 //! total: records 4 items 2 merged 2 returned 4
 //! ```
 //!
-//! Its parts: `round` (a round, compared) and `capture` (a round of a capture, worked, compared and counted).
+//! Its parts: `round_check` (a round, compared) and `counting` (a round of a capture, worked, compared and counted).
 //!
 //! Tests: `engine_tests`, module `reading_beside::checks`.
 //!
@@ -47,8 +47,8 @@
 //!   round goes through `compare_round`, which has `compared` too.
 #![tactic(auto)]
 
-mod capture;
-mod round;
+mod counting;
+mod round_check;
 
-pub use capture::{CheckEnd, Counting};
-pub use round::check_round;
+pub use counting::{CheckEnd, Counting};
+pub use round_check::check_round;

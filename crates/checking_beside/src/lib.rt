@@ -30,6 +30,6 @@
 //! checks a round alone stands on neither.
 #![tactic(auto)]
 
-mod beside;
+mod checked;
 
-pub use beside::check_beside;
+pub use checked::check_beside;

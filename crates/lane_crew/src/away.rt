@@ -11,7 +11,7 @@ ghost use Rattle.lanes.specs.Lanes.{IsFilled, IsTapReady};
 ghost use Rattle.lane_crew.specs.Tasks.{DidLane, SentQueues, SentTaps, Away, HasPlace, IsPlaced, IsPut};
 ghost use Rattle.lanes.specs.Work.{Did};
 
-use crate::giving::take_back;
+use crate::carrying::take_back;
 use crate::loads::SpareLoads;
 use crate::tasks::{LaneDone, LaneJob, LaneTask, QueueTask, WatchTask};
 use block_pool::Giver;

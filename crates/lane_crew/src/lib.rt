@@ -33,8 +33,8 @@
 //! let desk = open_desk(alloc, count_runners(&rt, 6))?;
 //! ```
 //!
-//! Its parts: `giving` (a list that is lent, in parts and as one again), `loads` (the boxes that tasks carry), `tasks`
-//! (lanes as tasks), `away` (out to the desk and back) and `crew`.
+//! Its parts: `carrying` (a list that is lent, in parts and as one again), `loads` (the boxes that tasks carry),
+//! `tasks` (lanes as tasks), `away` (out to the desk and back) and `crew`.
 //!
 //! Tests: `engine_tests`, module `rounds_in_turn::working`.
 //!
@@ -55,8 +55,8 @@
 #![tactic(auto)]
 
 mod away;
+mod carrying;
 mod crew;
-mod giving;
 mod loads;
 mod tasks;
 

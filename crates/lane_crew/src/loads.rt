@@ -2,7 +2,7 @@
 ghost use Rattle.std.specs.Prelude.{◌≡◌, MatchOption, max, IfSome};
 ghost use Rattle.lane_crew.specs.Givers.{Carries};
 
-use crate::giving::carry;
+use crate::carrying::carry;
 use block_pool::Giver;
 use lanes::{LanePlan, QueueLane, SharedProgram, TapLane, free_queue, free_tap, share_in};
 use std::alloc::{AllocError, Global};

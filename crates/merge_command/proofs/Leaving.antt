@@ -8,8 +8,8 @@ use Rattle.pcap_io.specs.declared.faults.InFault.{InFault}
 use Rattle.pcap_io.specs.declared.faults.InFault.TheVariants.{Cap, ReadFault}
 use Rattle.rounds.specs.RoundsState.{RoundsState}
 use Rattle.rounds.specs.Merging.{HoldsCaptured}
-use Rattle.rounds.specs.declared.merge.MergeEnd.{MergeEnd}
-use Rattle.rounds.specs.declared.merge.MergeEnd.TheVariants as ends
+use Rattle.rounds.specs.declared.round_writer.MergeEnd.{MergeEnd}
+use Rattle.rounds.specs.declared.round_writer.MergeEnd.TheVariants as ends
 use Rattle.command_answers.specs.declared.status.Status.{Status}
 use Rattle.command_answers.specs.declared.status.Status.TheVariants as statuses
 use Rattle.command_answers.specs.Ending.{HasBlocks, IsStatusFor, OfRead}

@@ -7,8 +7,8 @@ use Rattle.pcap_io.specs.declared.faults.InFault.TheVariants as faults
 use Rattle.offload_model.specs.Passing.{Ending, Passed, Passes, merging_whole, segmenting_whole}
 use Rattle.lanes.specs.Work.{options_by}
 use Rattle.lanes.specs.declared.plan.LanePlan.{LanePlan}
-use Rattle.rounds.specs.declared.merge.MergeEnd.{MergeEnd}
-use Rattle.rounds.specs.declared.merge.MergeEnd.TheVariants as merges
+use Rattle.rounds.specs.declared.round_writer.MergeEnd.{MergeEnd}
+use Rattle.rounds.specs.declared.round_writer.MergeEnd.TheVariants as merges
 use Rattle.segmenting.specs.declared.segment.SegFault.{SegFault}
 use Rattle.segmenting.specs.declared.segment.SegFault.TheVariants as segments
 use Rattle.rounds.specs.Merging.{ending_of, options_of}

@@ -5,8 +5,8 @@ use Rattle.pcap_io.specs.declared.faults.InFault.{InFault}
 use Rattle.pcap_io.specs.declared.faults.InFault.TheVariants as faults
 use Rattle.offload_model.specs.Passing.{Ending, Stopped, Nowhere, AtFault, AtRound, Passed, ReadFault, WriteFault}
 use Rattle.offload_model.specs.Passing.{NoMemory, Passes}
-use Rattle.rounds.specs.declared.merge.MergeEnd.{MergeEnd}
-use Rattle.rounds.specs.declared.merge.MergeEnd.TheVariants as merges
+use Rattle.rounds.specs.declared.round_writer.MergeEnd.{MergeEnd}
+use Rattle.rounds.specs.declared.round_writer.MergeEnd.TheVariants as merges
 use Rattle.segmenting.specs.declared.segment.SegFault.{SegFault}
 use Rattle.segmenting.specs.declared.segment.SegFault.TheVariants as segments
 use Rattle.offload_c.specs.declared.memory.Outcome.{Outcome}

@@ -1,7 +1,7 @@
 -- Rounds that were read one after another.
 use Rattle.std.proofs.Common.{◌≡◌, ◌+◌, ◌≤◌, ℕ, List, [], ◌∷◌, ◌++◌, Option, refl, ap, ◌∙◌, sym, subst, length, arith, append_assoc}
 use Rattle.pcap_io.specs.declared.place.Place.{Place}
-use Rattle.rounds.specs.declared.round.RoundRead.{RoundRead}
+use Rattle.rounds.specs.declared.round_stages.RoundRead.{RoundRead}
 use Rattle.rounds.specs.Reads.{Spot, spot, ReadRound}
 use Rattle.pipeline.specs.declared.parcel.Parcel.{Parcel}
 use Rattle.pipeline.specs.Parcels.{last_blocks, packets_of, rounds_of, spares_before, spares_of, weights_sent}

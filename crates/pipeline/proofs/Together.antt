@@ -4,8 +4,8 @@ use Rattle.std.proofs.Common.{Option, None, Some, MatchOption, IfSome, Result, O
 use Rattle.std.proofs.lemmas.Bool.{false≢true}
 use Rattle.block_pool.specs.PoolState.{weighed}
 use Rattle.offload_model.specs.Written.{Options}
-use Rattle.rounds.specs.declared.round.RoundEnd.TheVariants as rounds
-use Rattle.rounds.specs.declared.round.RoundRead.{RoundRead}
+use Rattle.rounds.specs.declared.round_stages.RoundEnd.TheVariants as rounds
+use Rattle.rounds.specs.declared.round_stages.RoundRead.{RoundRead}
 use Rattle.rounds.specs.Handled.{Ends, FewPauses, GaveSpares, Ran, Rests, IsReadyAtEnd, Handled}
 use Rattle.rounds.specs.Merging.{options_of}
 use Rattle.rounds.specs.Reads.{Spot, ReadRound, Reads, is_full}

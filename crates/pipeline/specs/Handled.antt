@@ -6,8 +6,8 @@ use Rattle.block_pool.specs.PoolState.{PoolState, home, weighed}
 use Rattle.pcap_io.specs.declared.heads.Link.TheVariants.{Ethernet}
 use Rattle.pcap_io.specs.declared.place.Place.{Place}
 use Rattle.pcap_io.specs.Places.{IsReady}
-use Rattle.rounds.specs.declared.round.RoundEnd.TheVariants as ends
-use Rattle.rounds.specs.declared.round.RoundRead.{RoundRead}
+use Rattle.rounds.specs.declared.round_stages.RoundEnd.TheVariants as ends
+use Rattle.rounds.specs.declared.round_stages.RoundRead.{RoundRead}
 use Rattle.rounds.specs.declared.spares.Spares.{Spares}
 use Rattle.rounds.specs.Benches.{HasRoom, IsLent, IsRead, IsSameBench, Lends}
 use Rattle.rounds.specs.Handled.{Ends, FewPauses, GaveSpares, IsReadyAtEnd, Rests}

@@ -3,7 +3,7 @@ use Rattle.std.specs.Prelude.{ℕ, ◌≡◌, ◌+◌, ◌-◌, ◌^◌, ◌≤�
 use Rattle.block_pool.specs.Giving.{GiverState, weights_given}
 use Rattle.block_pool.specs.PoolState.{PoolState, home, weighed}
 use Rattle.rounds.specs.Benches.{IsRead, Lends, UnlessFull}
-use Rattle.rounds.specs.declared.round.RoundRead.{RoundRead}
+use Rattle.rounds.specs.declared.round_stages.RoundRead.{RoundRead}
 use Rattle.rounds.specs.declared.spares.Spares.{Spares}
 use Rattle.rounds.specs.Weights.{weights_of}
 use Rattle.pipeline.specs.declared.parcel.Parcel.{Parcel}

@@ -80,8 +80,8 @@
 //! Its parts: `parcel` (what goes to the side that works), `returning` (how blocks go back, and the next round comes),
 //! `sides` (the loop of each side, and both at once), `gather` (what lies between the sides comes home once both have
 //! ended), `here` (the first round and what is left, in one thread), `drive` (the first round, the two sides, and one
-//! thread where there can't be two), `crewed` (all of that with who run lanes beside it) and `merge` (where each round
-//! is written).
+//! thread where there can't be two), `crewed` (all of that with who run lanes beside it) and `merging` (where each
+//! round is written).
 //!
 //! Tests: `engine_tests`, modules `reading_beside::driven`, `reading_beside::pausing` and `rounds_in_turn::lane_rows`.
 //!
@@ -103,11 +103,11 @@ mod crewed;
 mod drive;
 mod gather;
 mod here;
-mod merge;
+mod merging;
 mod parcel;
 mod returning;
 mod sides;
 
 pub use crewed::handle_beside;
-pub use merge::merge_beside;
+pub use merging::merge_beside;
 pub use rounds::RoundHandler;

@@ -13,8 +13,8 @@ use Rattle.gro.proofs.Weights.{weighed_last}
 use Rattle.gro.proofs.Lying.{alone_behind, alone_first}
 use Rattle.rounds.specs.Marks.{all, by_marks, IsMarked, IsNamed, IsWhole, nothing}
 use Rattle.rounds.specs.Table.{place_at, place_held, place_home, place_missing, place_weight, of_places, IsOwed, missing, missing_weight, AllOpen, AllHome, MayCome, Comes}
-use Rattle.rounds.specs.declared.table.Returned.{Returned}
-use Rattle.rounds.specs.declared.table.Returned.TheVariants.{Open, Home, Owed}
+use Rattle.rounds.specs.declared.mark_table.Returned.{Returned}
+use Rattle.rounds.specs.declared.mark_table.Returned.TheVariants.{Open, Home, Owed}
 use Rattle.rounds.proofs.Places.{marked_at, named_keeps}
 
 -- one account is two others

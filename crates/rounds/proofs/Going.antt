@@ -2,7 +2,7 @@
 use Rattle.std.proofs.Common.{◌≡◌, ◌∙◌, ◌⊎◌, ◌+◌, ◌-◌, ◌≤◌, ◌^◌, ℕ, min, List, [], ◌∷◌, ◌++◌, Option, None, Bool, inl, inr, refl, sym, ap, subst, length, arith}
 use Rattle.block_pool.specs.PassState.{risen}
 use Rattle.offload_model.specs.Written.{Options}
-use Rattle.rounds.specs.declared.round.RoundRead.{RoundRead}
+use Rattle.rounds.specs.declared.round_stages.RoundRead.{RoundRead}
 use Rattle.rounds.specs.declared.spares.Spares.{Spares}
 use Rattle.rounds.specs.Handled.{Went, Ends, FewPauses, GaveSpares, IsReadyAt, Rests, Stepped}
 use Rattle.rounds.specs.Merging.{options_of}

@@ -35,10 +35,10 @@ use Rattle.rounds.specs.Reading.{GivesRound, Holds, Exceeds}
 use Rattle.rounds.specs.RoundsState.{RoundsState}
 use Rattle.rounds.specs.Merging.{ending_of, options_of, Fails, WritesLast, Ahead, EndsBehind, TakesBehind, TakesTo, AreCapturedAt, EndsCaptured, HoldsCaptured}
 use Rattle.rounds.proofs.Needs.{rounds_before, takes_on, StopsAt}
-use Rattle.rounds.specs.declared.round.RoundEnd.{RoundEnd}
-use Rattle.rounds.specs.declared.round.RoundEnd.TheVariants as rounds
-use Rattle.rounds.specs.declared.merge.MergeEnd.{MergeEnd}
-use Rattle.rounds.specs.declared.merge.MergeEnd.TheVariants as ends
+use Rattle.rounds.specs.declared.round_stages.RoundEnd.{RoundEnd}
+use Rattle.rounds.specs.declared.round_stages.RoundEnd.TheVariants as rounds
+use Rattle.rounds.specs.declared.round_writer.MergeEnd.{MergeEnd}
+use Rattle.rounds.specs.declared.round_writer.MergeEnd.TheVariants as ends
 
 -- ---- what is written
 

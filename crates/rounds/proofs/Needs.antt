@@ -17,8 +17,8 @@ use Rattle.gro.specs.Slots.{packet_of}
 use Rattle.reading.specs.Reading.{in_front}
 use Rattle.rounds.specs.Merging.{TakesAll, TakesBehind, TakesTo}
 use Rattle.rounds.specs.Reading.{GivesRound}
-use Rattle.rounds.specs.declared.round.RoundEnd.{RoundEnd}
-use Rattle.rounds.specs.declared.round.RoundEnd.TheVariants as rounds
+use Rattle.rounds.specs.declared.round_stages.RoundEnd.{RoundEnd}
+use Rattle.rounds.specs.declared.round_stages.RoundEnd.TheVariants as rounds
 
 -- the number of the round that exceeds the blocks, and whether there is one
 abbrev round_in : Stop → ℕ

@@ -27,10 +27,10 @@ use Rattle.rounds.specs.Filling.{Fills, Reached, Stands}
 use Rattle.rounds.specs.Reading.{EndsAt, GivesRound, IfEnded, IsEndOf, IsHaltOf, PassesRound}
 use Rattle.rounds.specs.RoundOf.{at_hand, Brought, Came, IsBegun, IsRoundOf}
 use Rattle.rounds.specs.RoundsState.{ReadingState}
-use Rattle.rounds.specs.declared.round.Halt.{Halt}
-use Rattle.rounds.specs.declared.round.Halt.TheVariants.{Ended, Lacking}
-use Rattle.rounds.specs.declared.round.RoundEnd.{RoundEnd}
-use Rattle.rounds.specs.declared.round.RoundEnd.TheVariants as ends
+use Rattle.rounds.specs.declared.round_stages.Halt.{Halt}
+use Rattle.rounds.specs.declared.round_stages.Halt.TheVariants.{Ended, Lacking}
+use Rattle.rounds.specs.declared.round_stages.RoundEnd.{RoundEnd}
+use Rattle.rounds.specs.declared.round_stages.RoundEnd.TheVariants as ends
 use Rattle.rounds.proofs.Coming.{counts_last}
 use Rattle.rounds.proofs.Counting.{rose_later}
 use Rattle.rounds.proofs.Rounding.{captured_last, need_last, passes_none, precede_more, read_last, round_stop}

@@ -7,8 +7,8 @@ use Rattle.frags.proofs.Accounts.{soles_home-append}
 use Rattle.frags.specs.RoundAccount.{of_lives}
 use Rattle.rounds.specs.Marks.{all, blocks_but, others, IsMarked, IsNamed}
 use Rattle.rounds.specs.Table.{place_held, place_missing, place_weight, IsOwed, missing, missing_weight, IsOfLife, Receives}
-use Rattle.rounds.specs.declared.table.Returned.{Returned}
-use Rattle.rounds.specs.declared.table.Returned.TheVariants.{Open, Home, Owed}
+use Rattle.rounds.specs.declared.mark_table.Returned.{Returned}
+use Rattle.rounds.specs.declared.mark_table.Returned.TheVariants.{Open, Home, Owed}
 
 -- the places of a table after one was set
 pub missing-set : (ps : List Returned) (k : ℕ) (q d : Returned) → k < length ps → missing (set ps k q) + place_missing (get_or ps k d) ≡ missing ps + place_missing q

@@ -21,7 +21,7 @@ use Rattle.rounds.specs.RoundOf.{IsRoundOf}
 use Rattle.rounds.specs.Reading.{GivesRound, Holds, Exceeds, IsEndOf}
 use Rattle.reading.specs.declared.record.Stop.{Stop}
 use Rattle.reading.specs.declared.record.Stop.TheVariants as stops
-use Rattle.rounds.specs.declared.round.RoundEnd.{RoundEnd}
+use Rattle.rounds.specs.declared.round_stages.RoundEnd.{RoundEnd}
 
 -- packets, and then more of them
 passes_then : (old mid new : Place) (ps qs : List Packet) (bytes rest left : List ℕ) → Passes old mid ps bytes rest → Passes mid new qs rest left → Passes old new (ps ++ qs) bytes left

@@ -7,9 +7,9 @@ use Rattle.off_io.proofs.Telling.{Told-then, Told-same, Told-weaker}
 use Rattle.pcap_io.specs.declared.place.Place.{Place}
 use Rattle.pcap_io.specs.Reading.{Loses}
 use Rattle.gro.specs.declared.slot.Slot.{Slot as Held}
-use Rattle.rounds.specs.declared.round.RoundEnd.{RoundEnd}
-use Rattle.rounds.specs.declared.round.RoundEnd.TheVariants as ends
-use Rattle.rounds.specs.declared.round.RoundRead.{RoundRead}
+use Rattle.rounds.specs.declared.round_stages.RoundEnd.{RoundEnd}
+use Rattle.rounds.specs.declared.round_stages.RoundEnd.TheVariants as ends
+use Rattle.rounds.specs.declared.round_stages.RoundRead.{RoundRead}
 use Rattle.rounds.specs.Reading.{GivesRound}
 use Rattle.rounds.specs.Reads.{Spot, ReadRound, Reads, is_full}
 

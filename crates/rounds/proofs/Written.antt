@@ -18,13 +18,13 @@ use Rattle.offload_model.specs.Written.{Options}
 use Rattle.offload_model.proofs.Steps.{prefixes_pass_on}
 use Rattle.gro.specs.declared.slot.Slot.{Slot as Held}
 use Rattle.gro.specs.Slots.{packet_of}
-use Rattle.rounds.specs.declared.round.RoundEnd.{RoundEnd}
-use Rattle.rounds.specs.declared.round.RoundEnd.TheVariants as rounds
-use Rattle.rounds.specs.declared.round.RoundRead.{RoundRead}
-use Rattle.rounds.specs.declared.merge.MergeEnd.{MergeEnd}
-use Rattle.rounds.specs.declared.merge.MergeEnd.TheVariants as ends
-use Rattle.rounds.specs.declared.merge.Step.{Step}
-use Rattle.rounds.specs.declared.merge.Step.TheVariants as steps
+use Rattle.rounds.specs.declared.round_stages.RoundEnd.{RoundEnd}
+use Rattle.rounds.specs.declared.round_stages.RoundEnd.TheVariants as rounds
+use Rattle.rounds.specs.declared.round_stages.RoundRead.{RoundRead}
+use Rattle.rounds.specs.declared.round_writer.MergeEnd.{MergeEnd}
+use Rattle.rounds.specs.declared.round_writer.MergeEnd.TheVariants as ends
+use Rattle.rounds.specs.declared.round_writer.Step.{Step}
+use Rattle.rounds.specs.declared.round_writer.Step.TheVariants as steps
 use Rattle.rounds.specs.Handled.{Ends, Handled, drawn_at}
 use Rattle.rounds.specs.Merged.{Start, Behind, Ended, WroteRound, PutRound, Sunk, Merged}
 use Rattle.rounds.specs.Merging.{ending_of, options_of, is_worked, Fails, WritesLast, Puts, GivesUp, Ahead, EndsBehind, TakesBehind, TakesTo, EndsCaptured}

@@ -11,9 +11,9 @@ use Rattle.gro.specs.Slots.{packet_of}
 use Rattle.reading.specs.Reading.{Passes, StandsAt}
 use Rattle.rounds.specs.Fresh.{NumberedFrom}
 use Rattle.rounds.specs.Reading.{GivesRound, IfEnded, PassesRound}
-use Rattle.rounds.specs.declared.round.Halt.{Halt}
-use Rattle.rounds.specs.declared.round.Halt.TheVariants as halts
-use Rattle.rounds.specs.declared.round.RoundEnd.TheVariants as ends
+use Rattle.rounds.specs.declared.round_stages.Halt.{Halt}
+use Rattle.rounds.specs.declared.round_stages.Halt.TheVariants as halts
+use Rattle.rounds.specs.declared.round_stages.RoundEnd.TheVariants as ends
 
 -- how far a reader went: the place, what the source has left where it tells, and its faults
 pub record Reached : Type 0 where

@@ -10,11 +10,11 @@ use Rattle.offload_model.specs.Passing.{merging, Passes, PrefixUnless, flushes}
 use Rattle.offload_model.specs.Steps.{round_output}
 use Rattle.offload_model.specs.Written.{Options}
 use Rattle.gro.specs.Slots.{packet_of}
-use Rattle.rounds.specs.declared.merge.MergeEnd.{MergeEnd}
-use Rattle.rounds.specs.declared.merge.MergeEnd.TheVariants as ends
-use Rattle.rounds.specs.declared.merge.Step.{Step}
-use Rattle.rounds.specs.declared.merge.Step.TheVariants as steps
-use Rattle.rounds.specs.declared.round.RoundRead.{RoundRead}
+use Rattle.rounds.specs.declared.round_writer.MergeEnd.{MergeEnd}
+use Rattle.rounds.specs.declared.round_writer.MergeEnd.TheVariants as ends
+use Rattle.rounds.specs.declared.round_writer.Step.{Step}
+use Rattle.rounds.specs.declared.round_writer.Step.TheVariants as steps
+use Rattle.rounds.specs.declared.round_stages.RoundRead.{RoundRead}
 use Rattle.rounds.specs.Merging.{ending_of, options_of, is_worked, Puts, GivesUp, Ahead, TakesTo, HoldsCaptured}
 use Rattle.rounds.specs.Handled.{Drawn, FewPauses}
 use Rattle.rounds.specs.Reads.{Spot}

@@ -16,12 +16,12 @@ use Rattle.offload_model.specs.Written.{Options}
 use Rattle.lanes.specs.Work.{options_by}
 use Rattle.reading.specs.Reading.{in_front}
 use Rattle.rounds.specs.RoundsState.{RoundsState}
-use Rattle.rounds.specs.declared.round.RoundEnd.{RoundEnd}
-use Rattle.rounds.specs.declared.round.RoundEnd.TheVariants as read_ends
-use Rattle.rounds.specs.declared.merge.MergeEnd.{MergeEnd}
-use Rattle.rounds.specs.declared.merge.MergeEnd.TheVariants as ends
-use Rattle.rounds.specs.declared.merge.Step.{Step}
-use Rattle.rounds.specs.declared.merge.Step.TheVariants as steps
+use Rattle.rounds.specs.declared.round_stages.RoundEnd.{RoundEnd}
+use Rattle.rounds.specs.declared.round_stages.RoundEnd.TheVariants as read_ends
+use Rattle.rounds.specs.declared.round_writer.MergeEnd.{MergeEnd}
+use Rattle.rounds.specs.declared.round_writer.MergeEnd.TheVariants as ends
+use Rattle.rounds.specs.declared.round_writer.Step.{Step}
+use Rattle.rounds.specs.declared.round_writer.Step.TheVariants as steps
 
 abbrev pub ending_of : MergeEnd → Ending
 ending_of ends.Done = Stopped Nowhere

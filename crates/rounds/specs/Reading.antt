@@ -10,12 +10,12 @@ use Rattle.offload_model.specs.Need.{need_of, needed, round_need}
 use Rattle.gro.specs.declared.slot.Slot.{Slot as Held}
 use Rattle.gro.specs.Slots.{packet_of}
 use Rattle.reading.specs.Reading.{in_front, Passes, Announces}
-use Rattle.rounds.specs.declared.round.Halt.{Halt}
-use Rattle.rounds.specs.declared.round.Halt.TheVariants as halts
+use Rattle.rounds.specs.declared.round_stages.Halt.{Halt}
+use Rattle.rounds.specs.declared.round_stages.Halt.TheVariants as halts
 use Rattle.reading.specs.declared.record.Stop.{Stop}
 use Rattle.reading.specs.declared.record.Stop.TheVariants as stops
-use Rattle.rounds.specs.declared.round.RoundEnd.{RoundEnd}
-use Rattle.rounds.specs.declared.round.RoundEnd.TheVariants as ends
+use Rattle.rounds.specs.declared.round_stages.RoundEnd.{RoundEnd}
+use Rattle.rounds.specs.declared.round_stages.RoundEnd.TheVariants as ends
 
 -- the bytes that are gone hold just these whole records, and what they begin fits the blocks
 abbrev pub Holds : ℕ → Place → List Packet → List ℕ → List ℕ → Type 0

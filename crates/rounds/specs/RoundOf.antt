@@ -11,9 +11,9 @@ use Rattle.gro.specs.Slots.{packet_of, counts_of, weighed_slots}
 use Rattle.reading.specs.Laid.{AreRead, LaidFrom}
 use Rattle.rounds.specs.Reading.{EndsAt, IfEnded}
 use Rattle.rounds.specs.RoundsState.{ReadingState}
-use Rattle.rounds.specs.declared.round.Halt.{Halt}
-use Rattle.rounds.specs.declared.round.Halt.TheVariants as halts
-use Rattle.rounds.specs.declared.round.RoundEnd.TheVariants as ends
+use Rattle.rounds.specs.declared.round_stages.Halt.{Halt}
+use Rattle.rounds.specs.declared.round_stages.Halt.TheVariants as halts
+use Rattle.rounds.specs.declared.round_stages.RoundEnd.TheVariants as ends
 
 -- Packets of records as they were read, whose blocks and so many spares are the round's: two spares for each.
 pub record IsRoundOf (packets : List Held) (spares blocks : ℕ) : Type 0 where

@@ -6,8 +6,8 @@ use Rattle.block_pool.specs.PoolState.{PoolState, home, weighed}
 use Rattle.frags.specs.Account.{Account, KeepsBlocks, Tests, counted, both}
 use Rattle.frags.specs.RoundAccount.{Settles}
 use Rattle.rounds.specs.Marks.{IsMarked, IsNamed}
-use Rattle.rounds.specs.declared.table.Returned.{Returned}
-use Rattle.rounds.specs.declared.table.Returned.TheVariants.{Open, Home, Owed}
+use Rattle.rounds.specs.declared.mark_table.Returned.{Returned}
+use Rattle.rounds.specs.declared.mark_table.Returned.TheVariants.{Open, Home, Owed}
 
 abbrev pub place_held : Tests → ℕ → Returned → ℕ
 place_held t m Open = 0

@@ -16,10 +16,10 @@ ghost use Rattle.rounds.specs.Lanes.{worked_bytes, worked_records, IsAloneWork, 
 ghost use Rattle.rounds.specs.RoundOf.{IsBegun};
 ghost use Rattle.rounds.specs.Weights.{weights_of, weights_worked, weights_left};
 
-use crate::home::bring_out;
+use crate::mark_table::Returned;
 use crate::memory::{close_places, open_places, place_spares};
-use crate::round::{Reading, Rest, Round, RoundRead, Worked, make_lists, no_round};
-use crate::table::Returned;
+use crate::round_home::bring_out;
+use crate::round_stages::{Reading, Rest, Round, RoundRead, Worked, make_lists, no_round};
 use crate::writing::write_lanes;
 use block_pool::{Giver, Pool};
 use core::mem::replace;
@@ -159,6 +159,14 @@ impl Bench {
         ensures few { result ≤ 72 }
     {
         self.plan.queues + self.plan.taps
+    }
+
+    /// How the work of each round is divided.
+    pub fn plan(&self) -> &LanePlan
+        ensures plan { result.now ≡ self.now.plan }
+        ensures lawful { IsPlan self.now.plan }
+    {
+        &self.plan
     }
 
     /// Where its memory comes from.

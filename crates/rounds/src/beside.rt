@@ -17,7 +17,7 @@ ghost use Rattle.rounds.specs.Reading.{GivesRound, PassesRound};
 ghost use Rattle.rounds.specs.RoundOf.{brought_by, Came};
 
 use crate::intake::Intake;
-use crate::round::{Halt, RoundEnd, RoundRead};
+use crate::round_stages::{Halt, RoundEnd, RoundRead};
 use block_supply::{AllHome, Supply};
 use off_io::Source;
 use pcap_io::CaptureReader;

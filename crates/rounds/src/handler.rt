@@ -1,12 +1,12 @@
 //! What is done with the rounds of a capture.
 ghost use Rattle.std.specs.Prelude.{◌≡◌, ◌+◌, ◌≤◌, ◌^◌, ℕ, Bool, true, Option, None, length};
 ghost use Rattle.offload_model.specs.Written.{Options};
-ghost use Rattle.rounds.specs.declared.round.RoundRead.{RoundRead as ReadState};
+ghost use Rattle.rounds.specs.declared.round_stages.RoundRead.{RoundRead as ReadState};
 ghost use Rattle.rounds.specs.Benches.{options_at, BringsBeside, GivesSpares, IsLent, IsRead, Lends, MayBring};
 ghost use Rattle.rounds.specs.Weights.{weights_of};
 
 use crate::bench::Bench;
-use crate::round::{RoundEnd, RoundRead};
+use crate::round_stages::{RoundEnd, RoundRead};
 use block_pool::{Giver, Pool};
 use lanes::Works;
 

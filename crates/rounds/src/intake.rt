@@ -14,8 +14,8 @@ ghost use Rattle.rounds.specs.Filling.{reached, Fills, Reached, Stands};
 ghost use Rattle.rounds.specs.Weights.{weights_of};
 ghost use Rattle.rounds.specs.RoundOf.{brought_by, Came, Grows, IsBegun};
 
-use crate::round::{Halt, Reading, RoundEnd, RoundRead, make_lists, no_round};
 use crate::round_reading::read_more;
+use crate::round_stages::{Halt, Reading, RoundEnd, RoundRead, make_lists, no_round};
 use block_pool::Pool;
 use block_supply::{RECORD_BLOCKS, Supply};
 use off_io::Source;

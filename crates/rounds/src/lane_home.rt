@@ -11,8 +11,8 @@ ghost use Rattle.frags.specs.OutcomesState.{IsBare};
 ghost use Rattle.rounds.specs.Table.{Comes, MayCome};
 ghost use Rattle.reading.specs.Home.{Adds};
 
-use crate::home::{bring_alone, bring_buffer, bring_packets};
-use crate::table::{Returned, sweep};
+use crate::mark_table::{Returned, sweep};
+use crate::round_home::{bring_alone, bring_buffer, bring_packets};
 use block_pool::Pool;
 use frags::Outcomes;
 use lanes::{Lanes, QueueLane, TapLane};

@@ -17,8 +17,8 @@ ghost use Rattle.rounds.specs.Lanes.{IsAloneWork, WorksAs};
 ghost use Rattle.rounds.specs.Weights.{weights_of, weights_worked, weights_left};
 
 use crate::bench::Bench;
-use crate::giving::swap_list;
-use crate::round::{Rest, Round, Worked};
+use crate::giving_back::swap_list;
+use crate::round_stages::{Rest, Round, Worked};
 use block_pool::{Giver, Pool};
 use core::mem::replace;
 use gro::Packets;

@@ -96,15 +96,16 @@
 //! A round that is read is a value, a [`Reading`]: [`Intake::read`] goes on in it until it has an end, or lacks blocks.
 //! What it comes to is said of wherever it began (`specs/Filling.antt`), so one call after another says what one does.
 //!
-//! Its parts: `round_reading` (a round of records, each read by the crate `reading`); `table` and `home` (what comes
-//! back, by marks or by number, and all of a round given up at whichever point); `lane_work` (a round over lanes, by
-//! `lanes::work_packets`, with its heads shared where others hold blocks), `lane_home` (what lanes hold, home);
-//! `writing` (what they come to); `intake` (the side that reads: pool and budget); `bench` (the side that works:
-//! places, memory and lanes) and `giving` (spares that go to others); `lists` (lists of spares come home that another
-//! thread gave or took); `rounds` (both, in turn) and `beside` (a round read while another thread works: paused, and
-//! read on once the other rounds have ended); `handler` (what is done with a round, for whoever drives them) and
-//! `turns` (rounds one after another, each read and handled); `merge` (the handler that writes a round, and all rounds
-//! of a capture with it); `memory` (what is kept from round to round). `specs/Out.antt` says what is out with a round,
+//! Its parts: `round_stages` (a round being read, read, worked, and what is left of it); `round_reading` (a round of
+//! records, each read by the crate `reading`); `mark_table` and `round_home` (what comes back, by marks or by number,
+//! and all of a round given up at whichever point); `lane_work` (a round over lanes, by `lanes::work_packets`, with its
+//! heads shared where others hold blocks), `lane_home` (what lanes hold, home); `writing` (what they come to); `intake`
+//! (the side that reads: pool and budget); `bench` (the side that works: places, memory and lanes) and `giving_back`
+//! (spares that go to others); `list_home` (lists of spares come home that another thread gave or took); `rounds`
+//! (both, in turn) and `beside` (a round read while another thread works: paused, and read on once the other rounds
+//! have ended); `handler` (what is done with a round, for whoever drives them) and `turns` (rounds one after another,
+//! each read and handled); `round_writer` (the handler that writes a round, and all rounds of a capture with it);
+//! `memory` (what is kept from round to round). `specs/Out.antt` says what is out with a round,
 //! `specs/Marks.antt` what is its account where others hold blocks of it, `specs/Fresh.antt` what that is once heads
 //! are shared, `specs/Reading.antt` what each end of a round says of the capture's bytes, `specs/Benches.antt` when
 //! blocks may come home, and what is so once they have.
@@ -166,33 +167,31 @@
 
 mod bench;
 mod beside;
-mod frames;
-mod giving;
+mod giving_back;
 mod handler;
-mod home;
 mod intake;
 mod lane_home;
 mod lane_work;
-mod lists;
+mod list_home;
+mod mark_table;
 mod memory;
-mod merge;
-mod plan;
-mod round;
+mod round_home;
 mod round_reading;
+mod round_stages;
+mod round_writer;
 mod rounds;
 mod spares;
-mod table;
 mod turns;
 mod worked_parts;
 mod writing;
 
 pub use bench::Bench;
-pub use giving::give_list;
+pub use giving_back::give_list;
 pub use handler::RoundHandler;
 pub use intake::Intake;
-pub use lists::bring_lists;
-pub use merge::{MergeEnd, RoundWriter, Step};
-pub use round::{Halt, Reading, Rest, Round, RoundEnd, RoundRead, Worked};
+pub use list_home::bring_lists;
+pub use round_stages::{Halt, Reading, Rest, Round, RoundEnd, RoundRead, Worked};
+pub use round_writer::{MergeEnd, RoundWriter, Step};
 pub use rounds::Rounds;
 pub use spares::Spares;
 pub use turns::handle_from;

@@ -3,7 +3,7 @@ ghost use Rattle.std.specs.Prelude.{◌≡◌, ◌*◌, ◌≤◌, length, IfOk,
 ghost use Rattle.block_pool.specs.PoolState.{home};
 ghost use Rattle.rounds.specs.Table.{AllOpen};
 
-use crate::table::Returned;
+use crate::mark_table::Returned;
 use block_pool::Pool;
 use std::alloc::{AllocError, Global};
 

@@ -9,7 +9,7 @@ ghost use Rattle.pcap_io.specs.Readers.{place_of, source_of, SameLoan};
 ghost use Rattle.rounds.specs.Filling.{reached, Fills, Reached, Stands};
 ghost use Rattle.rounds.specs.RoundOf.{at_hand, brought_by, Came, Grows, IsHold, IsRoundOf};
 
-use crate::round::{Halt, RoundEnd, halt_of};
+use crate::round_stages::{Halt, RoundEnd, halt_of};
 use block_pool::Pool;
 use block_supply::Supply;
 use gro::Packets;

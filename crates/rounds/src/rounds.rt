@@ -26,7 +26,7 @@ ghost use Rattle.rounds.specs.Weights.{weights_of, weights_left, weights_worked}
 use crate::bench::Bench;
 use crate::handler::RoundHandler;
 use crate::intake::Intake;
-use crate::round::{Rest, Round, RoundEnd, RoundRead, Worked};
+use crate::round_stages::{Rest, Round, RoundEnd, RoundRead, Worked};
 use crate::spares::Spares;
 use block_supply::AllHome;
 use lanes::{LanePlan, Works};
@@ -158,6 +158,14 @@ impl Rounds {
         ensures few { result ≤ 72 }
     {
         self.bench.lanes()
+    }
+
+    /// How the work of each round is divided.
+    pub fn plan(&self) -> &LanePlan
+        ensures plan { result.now ≡ self.now.plan }
+        ensures lawful { IsPlan self.now.plan }
+    {
+        self.bench.plan()
     }
 
     /// Reads the next `budget` records, or fewer where the capture ends, is refused or its source fails, where the

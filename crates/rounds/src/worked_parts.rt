@@ -1,7 +1,7 @@
 //! What a round that was worked shows of itself.
 ghost use Rattle.std.specs.Prelude.{◌≡◌};
 
-use crate::round::Worked;
+use crate::round_stages::Worked;
 use lanes::Lanes;
 use taps::TapClone;
 

@@ -3,8 +3,8 @@ use Rattle.off_io.specs.Told.{Told}
 use Rattle.pcap_io.specs.declared.place.Place.{Place}
 use Rattle.rounds.specs.Filling.{reached, Fills, Reached, Stands}
 use Rattle.rounds.specs.RoundsState.{RoundState, RoundsState}
-use Rattle.rounds.specs.declared.round.Halt.TheVariants.{Ended}
-use Rattle.rounds.specs.declared.round.RoundEnd.TheVariants.{NoMemory}
+use Rattle.rounds.specs.declared.round_stages.Halt.TheVariants.{Ended}
+use Rattle.rounds.specs.declared.round_stages.RoundEnd.TheVariants.{NoMemory}
 use Rattle.rounds.proofs.Pausing.{fills_ended}
 use Rattle.ahead.specs.Ahead.{GivesBehind}
 use Rattle.ahead.proofs.Beside.{behind_faults, behind_full, behind_given, behind_numbers, behind_unread, number_as, stands_as, stands_kept}

@@ -4,7 +4,7 @@ use Rattle.pcap_io.specs.Places.{first_place}
 use Rattle.check_totals.specs.Counts.{totals_of}
 use Rattle.rounds.specs.Merging.{options_of as rounds_options, TakesTo}
 use Rattle.checking.specs.Handling.{ending_of as check_ending}
-use Rattle.checking.specs.declared.capture.CheckEnd.{CheckEnd}
+use Rattle.checking.specs.declared.counting.CheckEnd.{CheckEnd}
 use Rattle.off_io.specs.Told.{Told}
 use Rattle.check_command.specs.Checking.{first_line}
 use Rattle.command_answers.specs.Output.{options}

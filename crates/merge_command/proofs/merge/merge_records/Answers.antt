@@ -6,7 +6,7 @@ use Rattle.offload_model.specs.Need.{round_need}
 use Rattle.offload_model.specs.Passing.{Ending, merging, Passes}
 use Rattle.rounds.specs.RoundsState.{RoundsState}
 use Rattle.rounds.specs.Merging.{ending_of as merge_ending, options_of as rounds_options, HoldsCaptured, TakesTo}
-use Rattle.rounds.specs.declared.merge.MergeEnd.{MergeEnd}
+use Rattle.rounds.specs.declared.round_writer.MergeEnd.{MergeEnd}
 use Rattle.command_answers.specs.declared.status.Status.{Status}
 use Rattle.command_answers.specs.Ending.{Ends, OfRead}
 use Rattle.command_answers.specs.Output.{options, AreCapturedWithin}

@@ -10,7 +10,7 @@ use Rattle.rounds.specs.Benches.{options_at}
 use Rattle.rounds.specs.Merging.{options_of}
 use Rattle.rounds.specs.RoundsState.{BenchState, IntakeState, RoundsState}
 use Rattle.rounds.specs.Weights.{weights_of}
-use Rattle.rounds.specs.declared.round.RoundRead.{RoundRead}
+use Rattle.rounds.specs.declared.round_stages.RoundRead.{RoundRead}
 use Rattle.rounds.specs.declared.spares.Spares.{Spares}
 use Rattle.rounds.specs.Handled.{GaveSpares}
 use Rattle.pipeline.specs.declared.parcel.Parcel.{Parcel}

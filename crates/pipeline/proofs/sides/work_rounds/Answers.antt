@@ -5,7 +5,7 @@ use Rattle.rtrb.specs.Ring.{received}
 use Rattle.rounds.specs.Benches.{options_at, GivesSpares, IsRead, Lends}
 use Rattle.rounds.specs.RoundsState.{BenchState}
 use Rattle.rounds.specs.Weights.{weights_of}
-use Rattle.rounds.specs.declared.round.RoundRead.{RoundRead}
+use Rattle.rounds.specs.declared.round_stages.RoundRead.{RoundRead}
 use Rattle.rounds.specs.Handled.{Ends, IsReadyAtEnd, Went}
 use Rattle.pipeline.specs.declared.parcel.Parcel.{Parcel}
 use Rattle.pipeline.specs.Parcels.{last_blocks, packets_of, rounds_of, spares_before, spares_of, weights_sent, CountsSpares, IsLeft}

@@ -1,7 +1,7 @@
 use Rattle.std.proofs.Common.{◌+◌, ◌≤◌, ◌++◌, ℕ, zero, suc, List, [], ◌∷◌, length, length-append, refl, sym, ap, ◌∙◌, subst}
 use Rattle.rounds.specs.Table.{AllOpen}
-use Rattle.rounds.specs.declared.table.Returned.{Returned}
-use Rattle.rounds.specs.declared.table.Returned.TheVariants.{Open}
+use Rattle.rounds.specs.declared.mark_table.Returned.{Returned}
+use Rattle.rounds.specs.declared.mark_table.Returned.TheVariants.{Open}
 use Rattle.rounds.proofs.memory.open_places.Goals as goal
 
 open_last : (xs : List Returned) → AllOpen xs → AllOpen (xs ++ Open ∷ [])

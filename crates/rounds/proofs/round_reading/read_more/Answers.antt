@@ -5,7 +5,7 @@ use Rattle.off_io.specs.Told.{Told}
 use Rattle.gro.specs.Packets.{PacketsState}
 use Rattle.rounds.specs.Filling.{reached, Fills}
 use Rattle.rounds.specs.Reading.{EndsAt}
-use Rattle.rounds.specs.declared.round.RoundEnd.{RoundEnd}
+use Rattle.rounds.specs.declared.round_stages.RoundEnd.{RoundEnd}
 use Rattle.off_io.proofs.Telling.{Told-same}
 use Rattle.reading.proofs.Standing.{tells_then}
 use Rattle.reading.specs.Reading.{front_size, GivesRecord}

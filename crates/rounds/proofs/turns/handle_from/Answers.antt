@@ -1,5 +1,5 @@
 use Rattle.std.proofs.Common.{◌∙◌, ◌+◌, [], ◌∷◌, ◌++◌, List, None, Some, refl, sym, ap, subst, inr, arith, length, length-append, append-nil}
-use Rattle.rounds.specs.declared.round.RoundRead.{RoundRead}
+use Rattle.rounds.specs.declared.round_stages.RoundRead.{RoundRead}
 use Rattle.rounds.specs.Merging.{options_of}
 use Rattle.rounds.specs.Reads.{reader_at, Reads, is_full}
 use Rattle.rounds.proofs.Going.{few_none, gave_none, numbered, ready_as, rests_then, stepped_as, went_more, went_ends}

@@ -2,7 +2,7 @@ use Rattle.std.proofs.Common.{◌≡◌, ℕ, ◌≤◌, ◌+◌, ◌-◌, ◌^�
 use Rattle.block_pool.specs.PoolState.{weighed}
 use Rattle.pcap_io.specs.Places.{IsReady}
 use Rattle.pcap_io.specs.declared.heads.Link.TheVariants.{Ethernet}
-use Rattle.rounds.specs.declared.round.RoundRead.{RoundRead}
+use Rattle.rounds.specs.declared.round_stages.RoundRead.{RoundRead}
 use Rattle.rounds.specs.Merging.{options_of}
 use Rattle.rounds.specs.Handled.{IsReadyAt, Rests, Went}
 use Rattle.rounds.specs.Reads.{reader_at, Reads}

@@ -5,8 +5,8 @@ use Rattle.rounds.specs.Filling.{reached}
 use Rattle.rounds.specs.Fresh.{NumberedFrom}
 use Rattle.rounds.specs.Reading.{GivesRound}
 use Rattle.rounds.specs.RoundsState.{RoundState}
-use Rattle.rounds.specs.declared.round.Halt.TheVariants.{Ended}
-use Rattle.rounds.specs.declared.round.RoundEnd.TheVariants.{GivenUp}
+use Rattle.rounds.specs.declared.round_stages.Halt.TheVariants.{Ended}
+use Rattle.rounds.specs.declared.round_stages.RoundEnd.TheVariants.{GivenUp}
 use Rattle.rounds.proofs.Pausing.{fills_ended, lacking_from, stands_begun, stands_link, stands_lost}
 use Rattle.rounds.proofs.intake.Intake.read_beside.Goals as goal
 

@@ -1,7 +1,7 @@
 use Rattle.std.proofs.Common.{ap, sym, ◌∙◌}
 use Rattle.rounds.specs.Filling.{reached}
 use Rattle.rounds.specs.RoundsState.{RoundState, RoundsState}
-use Rattle.rounds.specs.declared.round.Halt.TheVariants.{Ended}
+use Rattle.rounds.specs.declared.round_stages.Halt.TheVariants.{Ended}
 use Rattle.rounds.proofs.Pausing.{fills_ended, stands_begun}
 use Rattle.rounds.proofs.rounds.Rounds.read_round.Goals as goal
 
