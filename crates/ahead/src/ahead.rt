@@ -1,5 +1,5 @@
 //! A round is read beside the work of another, and its rest behind that.
-ghost use Rattle.std.specs.Prelude.{◌≡◌, ◌≢◌, ◌+◌, ◌-◌, ◌*◌, ◌<◌, ◌≤◌, ◌^◌, [], true, length, map, min};
+ghost use Rattle.std.specs.Prelude.{◌≡◌, ◌≢◌, ◌+◌, ◌-◌, ◌<◌, ◌≤◌, ◌^◌, [], true, length, map, min};
 ghost use Rattle.std.specs.Prelude.{ℕ, All, IfOk, IfErr};
 ghost use Rattle.std.specs.Prelude.{IsErr, MatchResult, Ok};
 ghost use Rattle.std.specs.Arc.{arc_value};
@@ -22,7 +22,7 @@ ghost use Rattle.rounds.specs.Filling.{reached};
 ghost use Rattle.rounds.specs.Lanes.{worked_records, IsKeptWorkOf, WorksAs};
 ghost use Rattle.rounds.specs.Merging.{options_of};
 ghost use Rattle.rounds.specs.Reading.{GivesRound};
-ghost use Rattle.rounds.specs.RoundOf.{brought_by, Came, Takes};
+ghost use Rattle.rounds.specs.RoundOf.{brought_by, Came, TakesBlocks};
 ghost use Rattle.rounds.specs.Weights.{weights_of, weights_left};
 ghost use Rattle.ahead.specs.Ahead.{round_of, FillsAhead, FillsRound, GivesBehind, IfPaused, IfRead, Lacks, NumberedTo};
 ghost use Rattle.ahead.specs.Ahead.{NumbersOn, ReadsAhead, Waits};
@@ -63,7 +63,7 @@ fn read_next<R: Sync, S: Source, H: Supply>(
     ensures same { (intake.new.blocks ≡ intake.old.blocks) × (intake.new.budget ≡ intake.old.budget)
         × (intake.new.empties ≡ intake.old.empties) × (intake.new.pauses ≡ intake.old.pauses) }
     ensures budget { (1 ≤ intake.old.budget) × (intake.old.budget ≤ 4096) }
-    ensures takes { Takes intake.old.blocks intake.old.taken intake.new.taken 0 (round_of result).blocks }
+    ensures takes { TakesBlocks intake.old.blocks intake.old.taken intake.new.taken 0 (round_of result).blocks }
 {
     let mut reading = match intake.begin() {
         Ok(reading) => reading,
@@ -102,7 +102,7 @@ fn work_beside<'a, R: Threads + Wait + Sync, N: ListName + Send, W: Works, S: So
     ensures intake { (intake.new.blocks ≡ intake.old.blocks) × (intake.new.budget ≡ intake.old.budget)
         × (intake.new.empties ≡ intake.old.empties) × (intake.new.pauses ≡ intake.old.pauses) }
     ensures budget { (1 ≤ intake.old.budget) × (intake.old.budget ≤ 4096) }
-    ensures takes { Takes intake.old.blocks intake.old.taken intake.new.taken 0 (round_of result.0).blocks }
+    ensures takes { TakesBlocks intake.old.blocks intake.old.taken intake.new.taken 0 (round_of result.0).blocks }
     ensures works { WorksAs (options_at bench.old) bench.old.keep (map packet_of round.old.packets) result.1 }
     ensures lends { LendsWork round.old.blocks (weights_of round.old) giver.old giver.new result.1 }
     ensures spent { (round.new.packets ≡ []) × (round.new.spares ≡ []) }
@@ -132,7 +132,7 @@ fn work_beside<'a, R: Threads + Wait + Sync, N: ListName + Send, W: Works, S: So
                 × (intake.exit.now.empties ≡ intake.entry.now.empties)
                 × (intake.exit.now.pauses ≡ intake.entry.now.pauses) }
             ensures budget { (1 ≤ intake.entry.now.budget) × (intake.entry.now.budget ≤ 4096) }
-            ensures takes { Takes intake.entry.now.blocks intake.entry.now.taken intake.exit.now.taken 0
+            ensures takes { TakesBlocks intake.entry.now.blocks intake.entry.now.taken intake.exit.now.taken 0
                 (round_of result).blocks }
         { read_next(rt, intake, reader, more) },
         &mut || -> Result<Worked, Rest>
@@ -203,7 +203,7 @@ fn work_listed<N: ListName + Send, R: Threads + Wait + Sync, W: Works, S: Source
     ensures same { (rounds.new.blocks ≡ rounds.old.blocks) × (options_of rounds.new ≡ options_of rounds.old)
         × (rounds.new.keep ≡ rounds.old.keep) }
     ensures budget { (1 ≤ rounds.old.budget) × (rounds.old.budget ≤ 4096) }
-    ensures takes { Takes rounds.old.blocks rounds.old.taken rounds.new.taken 0 (round_of result.1).blocks }
+    ensures takes { TakesBlocks rounds.old.blocks rounds.old.taken rounds.new.taken 0 (round_of result.1).blocks }
 {
     if rounds.bench.make_room().is_err() {
         let none = rounds.intake.read_none();

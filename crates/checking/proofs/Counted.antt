@@ -25,7 +25,7 @@ use Rattle.rounds.specs.Handled.{Ends, Handled, drawn_at}
 use Rattle.rounds.specs.Reads.{Spot, ReadRound, Reads, is_full}
 use Rattle.rounds.proofs.Rows.{reads_lose}
 use Rattle.checking.specs.Whole.{Checked}
-use Rattle.checking.specs.Handling.{ending_of, Ahead, AreOf, CountsLast, CountsRound, EndsBehind}
+use Rattle.checking.specs.Handling.{ending_of, CountsAhead, AreOf, CountsLast, CountsRound, EndsCounting}
 use Rattle.checking.specs.declared.counting.CheckEnd.{CheckEnd}
 use Rattle.checking.specs.declared.counting.CheckEnd.TheVariants as ends
 use Rattle.checking.proofs.RoundsCounted.{ahead_none, goes_then, ends_then, taken_then, full_given, end_given, malformed_given, fault_given, empty_given}
@@ -37,18 +37,18 @@ is_fault _ = false
 
 module _ (blocks : ℕ) (options : Options) where
   -- there was no memory, whatever is gone
-  short_given : (k : ℕ) (from : Place) (a b : Option (List ℕ)) (c c1 : Counts) → Told a b Loses → Told a b (EndsBehind k blocks options from c c1 ends.NoMemory)
-  short_given k from a b c c1 lost = Told-weaker a b Loses (EndsBehind k blocks options from c c1 ends.NoMemory) (λ bytes left loses. (NoMemory, refl, (loses.0, loses.1))) lost
+  short_given : (k : ℕ) (from : Place) (a b : Option (List ℕ)) (c c1 : Counts) → Told a b Loses → Told a b (EndsCounting k blocks options from c c1 ends.NoMemory)
+  short_given k from a b c c1 lost = Told-weaker a b Loses (EndsCounting k blocks options from c c1 ends.NoMemory) (λ bytes left loses. (NoMemory, refl, (loses.0, loses.1))) lost
 
   -- what is said of an end
   record Says (k : ℕ) (from to : Spot) (c c1 : Counts) (end : CheckEnd) : Type 0 where
-    given : Told from.left to.left (EndsBehind k blocks options from.place c c1 end)
+    given : Told from.left to.left (EndsCounting k blocks options from.place c c1 end)
     taken : Told from.left to.left (TakesBehind k from.place from.taken to.taken (ending_of end))
     read : end ≡ ends.ReadFault → Rose from.faults to.faults
 
   short_says : (k : ℕ) (from to : Spot) (c c1 : Counts) (end : CheckEnd) → end ≡ ends.NoMemory → Told from.left to.left Loses → Says k from to c c1 end
   short_says k from to c c1 end is lost = record {
-    given = subst (λ (e : CheckEnd). Told from.left to.left (EndsBehind k blocks options from.place c c1 e)) (sym is) (short_given k from.place from.left to.left c c1 lost);
+    given = subst (λ (e : CheckEnd). Told from.left to.left (EndsCounting k blocks options from.place c c1 e)) (sym is) (short_given k from.place from.left to.left c c1 lost);
     taken = subst (λ (e : CheckEnd). Told from.left to.left (TakesBehind k from.place from.taken to.taken (ending_of e))) (sym is)
         (Told-weaker from.left to.left Loses (TakesBehind k from.place from.taken to.taken NoMemory) (λ bytes left _. tt) lost);
     read = λ fault. absurd (false≢true (ap is_fault (sym is ∙ fault)));
@@ -101,7 +101,7 @@ module _ (blocks : ℕ) (options : Options) where
       read = λ fault. r.failed is;
     }
     says_at (rounds.PoolEmpty need) end is isnt d = record {
-      given = subst (λ (e : CheckEnd). Told from.left to.left (EndsBehind k blocks options from.place c c1 e)) (sym d.0)
+      given = subst (λ (e : CheckEnd). Told from.left to.left (EndsCounting k blocks options from.place c c1 e)) (sym d.0)
           (empty_given blocks options from.place to.place read.round.packets r.some fits k from.left to.left c c1 read.end need is (fewer_by read.end _ _ (ap is_short is) r.fewer) lanes d.1 r.given);
       taken = subst (λ (x : CheckEnd). Told from.left to.left (TakesBehind k from.place from.taken to.taken (ending_of x))) (sym d.0)
           (end_told blocks k from.taken to.taken from.place to.place read.round.packets took (rounds.PoolEmpty need) from.left to.left (given_as (rounds.PoolEmpty need) is));
@@ -120,7 +120,7 @@ module _ (blocks : ℕ) (options : Options) where
     goes_sum rounds.NoMemory d = absurd d
     goes_sum rounds.GivenUp d = absurd d
 
-    goes_given : read.end ≡ rounds.Full → c1 ≡ added c counts → Told from.left to.left (Ahead blocks options 1 from.place to.place c c1 from.taken to.taken)
+    goes_given : read.end ≡ rounds.Full → c1 ≡ added c counts → Told from.left to.left (CountsAhead blocks options 1 from.place to.place c c1 from.taken to.taken)
     goes_given is sum =
         full_given blocks options from.place to.place read.round.packets r.some fits k from.left to.left c c1 read.end from.taken to.taken is (r.full is).full took sum r.given
 
@@ -145,7 +145,7 @@ module _ (blocks : ℕ) (options : Options) where
     read : end ≡ ends.ReadFault → Rose start.faults to.faults
 
   abbrev Gone : Spot → Counts → ℕ → Spot → Counts → Type 0
-  Gone start c0 k at now = Told start.left at.left (Ahead blocks options k start.place at.place c0 now start.taken at.taken)
+  Gone start c0 k at now = Told start.left at.left (CountsAhead blocks options k start.place at.place c0 now start.taken at.taken)
 
   says_then : (start : Spot) (c0 : Counts) (k : ℕ) (at to : Spot) (old new : Counts) (end : CheckEnd) → Gone start c0 k at old → start.faults ≤ at.faults → Says k at to old new end
       → Counted start c0 to new end

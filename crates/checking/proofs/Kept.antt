@@ -34,30 +34,30 @@ pub record Lent (o : Options) (ps : List Packet) (lanes : Lanes) (kept : List Ta
   pub watched : AreWatched o.snap (length lanes.taps.items) (map (shown_of o.filter) (map packet_of kept)) lanes.taps.items
   pub is : All IsMerged lanes.queues.items
 
-own_lent : (o : Options) (ps : List Packet) (w : WorkedState) → IsKeptWorkOf o ps w → Lent o ps w.lanes w.kept
+own_lent : (o : Options) (ps : List Packet) (w : WorkedState) → IsKeptWorkOf o ps w → Lent o ps w.lanes w.clones
 own_lent o ps w is =
     let queues = sym (length-map w.lanes.queues.items (λ (l : QueueLane). l.queue)) ∙ ap length is.merged.numbers ∙ length-range_with_len 0 o.queues in
     let taps = sym (length-map w.lanes.taps.items (λ (l : TapLane). l.tap)) ∙ ap length is.watched.numbers ∙ length-range_with_len 0 o.taps in
     record {
-      same = is.kept;
-      rising = subst (RiseFrom 0) (sym is.kept) is.rising;
+      same = is.clones;
+      rising = subst (RiseFrom 0) (sym is.clones) is.rising;
       queues = queues;
       taps = taps;
-      merged = subst (λ (n : ℕ). AreMerged o.segs o.spread n (map packet_of w.kept) w.lanes.queues.items) (sym queues)
-          (subst (λ (z : List Packet). AreMerged o.segs o.spread o.queues z w.lanes.queues.items) (sym is.kept) is.merged);
-      watched = subst (λ (n : ℕ). AreWatched o.snap n (map (shown_of o.filter) (map packet_of w.kept)) w.lanes.taps.items) (sym taps)
-          (subst (λ (z : List Packet). AreWatched o.snap o.taps (map (shown_of o.filter) z) w.lanes.taps.items) (sym is.kept) is.watched);
+      merged = subst (λ (n : ℕ). AreMerged o.segs o.spread n (map packet_of w.clones) w.lanes.queues.items) (sym queues)
+          (subst (λ (z : List Packet). AreMerged o.segs o.spread o.queues z w.lanes.queues.items) (sym is.clones) is.merged);
+      watched = subst (λ (n : ℕ). AreWatched o.snap n (map (shown_of o.filter) (map packet_of w.clones)) w.lanes.taps.items) (sym taps)
+          (subst (λ (z : List Packet). AreWatched o.snap o.taps (map (shown_of o.filter) z) w.lanes.taps.items) (sym is.clones) is.watched);
       is = is.is;
     }
 
-pub are_lent : (o : Options) (ps : List Packet) (w : WorkedState) (lanes : Lanes) (kept : List TapClone) → lanes ≡ w.lanes → kept ≡ w.kept → IsKeptWorkOf o ps w → Lent o ps lanes kept
+pub are_lent : (o : Options) (ps : List Packet) (w : WorkedState) (lanes : Lanes) (kept : List TapClone) → lanes ≡ w.lanes → kept ≡ w.clones → IsKeptWorkOf o ps w → Lent o ps lanes kept
 are_lent o ps w lanes kept e f is = subst (λ (l : Lanes). Lent o ps l kept) (sym e) (subst (Lent o ps w.lanes) (sym f) (own_lent o ps w is))
 
 -- what a round comes to may be compared
 pub may_compare : (o : Options) (ps : List Packet) (w : WorkedState) → IsKeptWorkOf o ps w → AllByRecursion IsCaptured ps → length ps ≤ 4096 → MayCompareWork w
 may_compare o ps w own c few =
     let is = own_lent o ps w own in
-    let kept = map packet_of w.kept in
+    let kept = map packet_of w.clones in
     let captured : AllByRecursion IsCaptured kept = subst (AllByRecursion IsCaptured) (sym is.same) c in
     let size : length kept ≤ 4096 = omega (arith, few, ap length is.same) in
     record {

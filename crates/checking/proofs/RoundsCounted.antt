@@ -39,16 +39,16 @@ use Rattle.rounds.specs.Reading.{GivesRound, Holds, Exceeds}
 use Rattle.reading.specs.Reading.{Passes as PassesRecords}
 use Rattle.rounds.specs.declared.round_stages.RoundEnd.{RoundEnd}
 use Rattle.rounds.specs.declared.round_stages.RoundEnd.TheVariants as rounds
-use Rattle.checking.specs.Handling.{ending_of, CountsLast, Ahead, EndsBehind, AreOf}
+use Rattle.checking.specs.Handling.{ending_of, CountsLast, CountsAhead, EndsCounting, AreOf}
 use Rattle.checking.specs.declared.counting.CheckEnd.{CheckEnd}
 use Rattle.checking.specs.declared.counting.CheckEnd.TheVariants as ends
 
 -- ---- rounds in a row
 
-pub ahead_none : (blocks : ℕ) (options : Options) (place : Place) (a : Option (List ℕ)) (c : Counts) (taken : ℕ) → Told a a (Ahead blocks options 0 place place c c taken taken)
+pub ahead_none : (blocks : ℕ) (options : Options) (place : Place) (a : Option (List ℕ)) (c : Counts) (taken : ℕ) → Told a a (CountsAhead blocks options 0 place place c c taken taken)
 ahead_none blocks options place a c taken =
     let tally = counting blocks options place in
-    Told-same a (Ahead blocks options 0 place place c c taken taken) (λ bytes. record {
+    Told-same a (CountsAhead blocks options 0 place place c c taken taken) (λ bytes. record {
       gone = [];
       counts = no_lanes;
       packets = [];
@@ -61,8 +61,8 @@ ahead_none blocks options place a c taken =
     })
 
 module _ (blocks : ℕ) (options : Options) (k : ℕ) (p0 p1 p2 : Place) (a b c : Option (List ℕ)) (c0 c1 c2 : Counts) (t0 t1 t2 : ℕ) where
-  one_ahead : (bytes rest left : List ℕ) → Ahead blocks options k p0 p1 c0 c1 t0 t1 bytes rest → Ahead blocks options 1 p1 p2 c1 c2 t1 t2 rest left
-      → Ahead blocks options (k + 1) p0 p2 c0 c2 t0 t2 bytes left
+  one_ahead : (bytes rest left : List ℕ) → CountsAhead blocks options k p0 p1 c0 c1 t0 t1 bytes rest → CountsAhead blocks options 1 p1 p2 c1 c2 t1 t2 rest left
+      → CountsAhead blocks options (k + 1) p0 p2 c0 c2 t0 t2 bytes left
   one_ahead bytes rest left x y = record {
     gone = x.gone ++ y.gone;
     counts = added x.counts y.counts;
@@ -76,12 +76,12 @@ module _ (blocks : ℕ) (options : Options) (k : ℕ) (p0 p1 p2 : Place) (a b c 
   }
 
   -- one round more
-  pub goes_then : Told a b (Ahead blocks options k p0 p1 c0 c1 t0 t1) → Told b c (Ahead blocks options 1 p1 p2 c1 c2 t1 t2) → Told a c (Ahead blocks options (k + 1) p0 p2 c0 c2 t0 t2)
+  pub goes_then : Told a b (CountsAhead blocks options k p0 p1 c0 c1 t0 t1) → Told b c (CountsAhead blocks options 1 p1 p2 c1 c2 t1 t2) → Told a c (CountsAhead blocks options (k + 1) p0 p2 c0 c2 t0 t2)
   goes_then first more =
-      Told-then a b c (Ahead blocks options k p0 p1 c0 c1 t0 t1) (Ahead blocks options 1 p1 p2 c1 c2 t1 t2) (Ahead blocks options (k + 1) p0 p2 c0 c2 t0 t2)
+      Told-then a b c (CountsAhead blocks options k p0 p1 c0 c1 t0 t1) (CountsAhead blocks options 1 p1 p2 c1 c2 t1 t2) (CountsAhead blocks options (k + 1) p0 p2 c0 c2 t0 t2)
       (λ bytes rest left x y. one_ahead bytes rest left x y) first more
 
-  one_end : (end : CheckEnd) (bytes rest left : List ℕ) → Ahead blocks options k p0 p1 c0 c1 t0 t1 bytes rest → EndsBehind k blocks options p1 c1 c2 end rest left
+  one_end : (end : CheckEnd) (bytes rest left : List ℕ) → CountsAhead blocks options k p0 p1 c0 c1 t0 t1 bytes rest → EndsCounting k blocks options p1 c1 c2 end rest left
       → Tallies (counting blocks options p0) c0 c2 (ending_of end) bytes left
   one_end end bytes rest left x y =
       let from = counting blocks options p0 in
@@ -89,10 +89,10 @@ module _ (blocks : ℕ) (options : Options) (k : ℕ) (p0 p1 p2 : Place) (a b c 
       subst (λ (l : List ℕ). Tallies from c0 c2 (ending_of end) l left) (sym x.split) (subst (λ (e : Ending). Tallies from c0 c2 e (x.gone ++ rest) left) (sym y.1) all)
 
   -- and the end
-  pub ends_then : (end : CheckEnd) → Told a b (Ahead blocks options k p0 p1 c0 c1 t0 t1) → Told b c (EndsBehind k blocks options p1 c1 c2 end)
+  pub ends_then : (end : CheckEnd) → Told a b (CountsAhead blocks options k p0 p1 c0 c1 t0 t1) → Told b c (EndsCounting k blocks options p1 c1 c2 end)
       → Told a c (Tallies (counting blocks options p0) c0 c2 (ending_of end))
   ends_then end first more =
-      Told-then a b c (Ahead blocks options k p0 p1 c0 c1 t0 t1) (EndsBehind k blocks options p1 c1 c2 end) (Tallies (counting blocks options p0) c0 c2 (ending_of end))
+      Told-then a b c (CountsAhead blocks options k p0 p1 c0 c1 t0 t1) (EndsCounting k blocks options p1 c1 c2 end) (Tallies (counting blocks options p0) c0 c2 (ending_of end))
       (λ bytes rest left x y. one_end end bytes rest left x y) first more
 
   -- where the bytes stop it
@@ -102,20 +102,20 @@ module _ (blocks : ℕ) (options : Options) (k : ℕ) (p0 p1 p2 : Place) (a b c 
   stops_at WriteFault bytes left tallies = tt
   stops_at NoMemory bytes left tallies = tt
 
-  one_taken : (end : CheckEnd) (bytes rest left : List ℕ) → Ahead blocks options k p0 p1 c0 c1 t0 t1 bytes rest
-      → EndsBehind k blocks options p1 c1 c2 end rest left × TakesBehind k p1 t1 t2 (ending_of end) rest left → TakesTo blocks options.budget p0 t0 t2 (ending_of end) bytes left
+  one_taken : (end : CheckEnd) (bytes rest left : List ℕ) → CountsAhead blocks options k p0 p1 c0 c1 t0 t1 bytes rest
+      → EndsCounting k blocks options p1 c1 c2 end rest left × TakesBehind k p1 t1 t2 (ending_of end) rest left → TakesTo blocks options.budget p0 t0 t2 (ending_of end) bytes left
   one_taken end bytes rest left x y =
       takes_on blocks options.budget k p0 p1 t0 t1 t2 x.packets x.gone x.found x.took x.size (ending_of end) bytes rest left x.split
       (stops_at (ending_of end) bytes left (one_end end bytes rest left x y.0)) y.1
 
   -- the blocks of all
-  pub taken_then : (end : CheckEnd) → Told a b (Ahead blocks options k p0 p1 c0 c1 t0 t1) → Told b c (EndsBehind k blocks options p1 c1 c2 end) → Told b c (TakesBehind k p1 t1 t2 (ending_of end))
+  pub taken_then : (end : CheckEnd) → Told a b (CountsAhead blocks options k p0 p1 c0 c1 t0 t1) → Told b c (EndsCounting k blocks options p1 c1 c2 end) → Told b c (TakesBehind k p1 t1 t2 (ending_of end))
       → Told a c (TakesTo blocks options.budget p0 t0 t2 (ending_of end))
   taken_then end first more here =
-      Told-then a b c (Ahead blocks options k p0 p1 c0 c1 t0 t1) (λ rest left. EndsBehind k blocks options p1 c1 c2 end rest left × TakesBehind k p1 t1 t2 (ending_of end) rest left)
+      Told-then a b c (CountsAhead blocks options k p0 p1 c0 c1 t0 t1) (λ rest left. EndsCounting k blocks options p1 c1 c2 end rest left × TakesBehind k p1 t1 t2 (ending_of end) rest left)
       (TakesTo blocks options.budget p0 t0 t2 (ending_of end))
       (λ bytes rest left x y. one_taken end bytes rest left x y) first
-      (both_told b c (EndsBehind k blocks options p1 c1 c2 end) (TakesBehind k p1 t1 t2 (ending_of end)) more here)
+      (both_told b c (EndsCounting k blocks options p1 c1 c2 end) (TakesBehind k p1 t1 t2 (ending_of end)) more here)
 
 -- ---- one round
 
@@ -152,13 +152,13 @@ module _ (blocks : ℕ) (options : Options) (from to : Place) (round : List Held
 
   module _ (k : ℕ) (a b : Option (List ℕ)) (c c1 : Counts) where
     -- there was no memory, whatever is gone
-    no_memory : (result : CheckEnd) (bytes left : List ℕ) → result ≡ ends.NoMemory → Loses bytes left → EndsBehind k blocks options from c c1 result bytes left
+    no_memory : (result : CheckEnd) (bytes left : List ℕ) → result ≡ ends.NoMemory → Loses bytes left → EndsCounting k blocks options from c c1 result bytes left
     no_memory result bytes left is loses = (NoMemory, ap ending_of is, (loses.0, loses.1))
 
     -- the last round ended as it was to, or there was no memory
     last_end : (end result : CheckEnd) (ending : Ending) (bytes left : List ℕ) → ending_of end ≡ ending_behind k ending → (c1 ≡ added c counts → Tallies tally c c1 ending bytes left)
         → Loses bytes left
-        → CountsLast c c1 counts end result → EndsBehind k blocks options from c c1 result bytes left
+        → CountsLast c c1 counts end result → EndsCounting k blocks options from c c1 result bytes left
     last_end end result ending bytes left is tallies loses (inl w) = (ending, ap ending_of w.0 ∙ is, tallies w.1)
     last_end end result ending bytes left is tallies loses (inr f) = no_memory result bytes left f loses
 
@@ -176,9 +176,9 @@ module _ (blocks : ℕ) (options : Options) (from to : Place) (round : List Held
         last_is holds.0 fault fewer holds.3 found
 
     pub end_given : (end : RoundEnd) (result : CheckEnd) → end ≡ rounds.End → length round < options.budget → CountsLast c c1 counts ends.Done result
-        → Told a b (GivesRound blocks from to round end) → Told a b (EndsBehind k blocks options from c c1 result)
+        → Told a b (GivesRound blocks from to round end) → Told a b (EndsCounting k blocks options from c c1 result)
     end_given end result is fewer counted told =
-        Told-weaker a b (GivesRound blocks from to round rounds.End) (EndsBehind k blocks options from c c1 result)
+        Told-weaker a b (GivesRound blocks from to round rounds.End) (EndsCounting k blocks options from c c1 result)
         (λ bytes left gives.
         let all = last_is bytes None fewer gives.1 gives.0 in
         let split : bytes ≡ bytes ++ left = sym (append-nil bytes) ∙ ap (λ (l : List ℕ). bytes ++ l) (sym gives.2) in
@@ -188,9 +188,9 @@ module _ (blocks : ℕ) (options : Options) (from to : Place) (round : List Held
         (subst (λ (e : RoundEnd). Told a b (GivesRound blocks from to round e)) is told)
 
     pub malformed_given : (end : RoundEnd) (fault : CapFault) (result : CheckEnd) → end ≡ rounds.Malformed fault → length round < options.budget → CountsLast c c1 counts (ends.Malformed fault) result
-        → Told a b (GivesRound blocks from to round end) → Told a b (EndsBehind k blocks options from c c1 result)
+        → Told a b (GivesRound blocks from to round end) → Told a b (EndsCounting k blocks options from c c1 result)
     malformed_given end fault result is fewer counted told =
-        Told-weaker a b (GivesRound blocks from to round (rounds.Malformed fault)) (EndsBehind k blocks options from c c1 result)
+        Told-weaker a b (GivesRound blocks from to round (rounds.Malformed fault)) (EndsCounting k blocks options from c c1 result)
         (λ bytes left gives.
         let all = last_is bytes (Some fault) fewer gives.1 gives.0 in
         let holds = gives.2 in
@@ -206,9 +206,9 @@ module _ (blocks : ℕ) (options : Options) (from to : Place) (round : List Held
         (subst (λ (e : RoundEnd). Told a b (GivesRound blocks from to round e)) is told)
 
     pub fault_given : (end : RoundEnd) (result : CheckEnd) → end ≡ rounds.ReadFault → length round < options.budget → CountsLast c c1 counts ends.ReadFault result
-        → Told a b (GivesRound blocks from to round end) → Told a b (EndsBehind k blocks options from c c1 result)
+        → Told a b (GivesRound blocks from to round end) → Told a b (EndsCounting k blocks options from c c1 result)
     fault_given end result is fewer counted told =
-        Told-weaker a b (GivesRound blocks from to round rounds.ReadFault) (EndsBehind k blocks options from c c1 result)
+        Told-weaker a b (GivesRound blocks from to round rounds.ReadFault) (EndsCounting k blocks options from c c1 result)
         (λ bytes left holds.
         let fault = (found_at from holds.0).fault in
         let all = holds_is bytes left fewer holds in
@@ -229,7 +229,7 @@ module _ (blocks : ℕ) (options : Options) (from to : Place) (round : List Held
     nothing gone stop lanes is same = same ∙ sym ((lanes_stay options).of_nothing c lanes) ∙ ap (added c) (sym (ap (λ (t : Tally). t.totals) is))
 
     exceeds_end : (need : ℕ) (bytes left : List ℕ) → length round < options.budget → HasLanes options c → c1 ≡ c → Exceeds blocks need from packets bytes left
-        → EndsBehind k blocks options from c c1 (ends.PoolEmpty k need) bytes left
+        → EndsCounting k blocks options from c c1 (ends.PoolEmpty k need) bytes left
     exceeds_end need bytes left fewer lanes same ex =
         let len = ex.0 in
         let is = ex.1.1 in
@@ -243,15 +243,15 @@ module _ (blocks : ℕ) (options : Options) (from to : Place) (round : List Held
         )
 
     pub empty_given : (end : RoundEnd) (need : ℕ) → end ≡ rounds.PoolEmpty need → length round < options.budget → HasLanes options c → c1 ≡ c
-        → Told a b (GivesRound blocks from to round end) → Told a b (EndsBehind k blocks options from c c1 (ends.PoolEmpty k need))
+        → Told a b (GivesRound blocks from to round end) → Told a b (EndsCounting k blocks options from c c1 (ends.PoolEmpty k need))
     empty_given end need is fewer lanes same told =
-        Told-weaker a b (GivesRound blocks from to round (rounds.PoolEmpty need)) (EndsBehind k blocks options from c c1 (ends.PoolEmpty k need))
+        Told-weaker a b (GivesRound blocks from to round (rounds.PoolEmpty need)) (EndsCounting k blocks options from c c1 (ends.PoolEmpty k need))
         (λ bytes left gives. exceeds_end need bytes left fewer lanes same gives)
         (subst (λ (e : RoundEnd). Told a b (GivesRound blocks from to round e)) is told)
 
     -- a full round was counted
     full_goes : (t t1 : ℕ) (bytes left : List ℕ) → length round ≡ options.budget → min (t + round_need packets) (2 ^ 64 - 1) ≤ t1 → c1 ≡ added c counts → PassesRecords from to packets bytes left
-        → Ahead blocks options 1 from to c c1 t t1 bytes left
+        → CountsAhead blocks options 1 from to c c1 t t1 bytes left
     full_goes t t1 bytes left full took sum passes = record {
       gone = passes.0;
       counts = counts;
@@ -267,9 +267,9 @@ module _ (blocks : ℕ) (options : Options) (from to : Place) (round : List Held
     }
 
     pub full_given : (end : RoundEnd) (t t1 : ℕ) → end ≡ rounds.Full → length round ≡ options.budget → min (t + round_need packets) (2 ^ 64 - 1) ≤ t1 → c1 ≡ added c counts
-        → Told a b (GivesRound blocks from to round end) → Told a b (Ahead blocks options 1 from to c c1 t t1)
+        → Told a b (GivesRound blocks from to round end) → Told a b (CountsAhead blocks options 1 from to c c1 t t1)
     full_given end t t1 is full took sum told =
-        Told-weaker a b (GivesRound blocks from to round rounds.Full) (Ahead blocks options 1 from to c c1 t t1)
+        Told-weaker a b (GivesRound blocks from to round rounds.Full) (CountsAhead blocks options 1 from to c c1 t t1)
         (λ bytes left gives. full_goes t t1 bytes left full took sum gives)
         (subst (λ (e : RoundEnd). Told a b (GivesRound blocks from to round e)) is told)
 

@@ -16,7 +16,7 @@ use Rattle.check_totals.specs.Checking.{counting}
 use Rattle.check_totals.specs.Tallies.{CountsOn, Tallies}
 use Rattle.rounds.specs.declared.round_stages.RoundEnd.{RoundEnd}
 use Rattle.rounds.specs.declared.round_stages.RoundEnd.TheVariants as read_ends
-use Rattle.rounds.specs.Benches.{options_at, BringsBeside, IsLent, IsRead, Lends, MayBring}
+use Rattle.rounds.specs.Benches.{options_at, BringsBeside, IsLent, IsReadRound, Lends, MayBring}
 use Rattle.rounds.specs.RoundsState.{BenchState, RoundState}
 use Rattle.rounds.specs.Weights.{weights_of}
 use Rattle.checking.specs.declared.counting.CheckEnd.{CheckEnd}
@@ -49,7 +49,7 @@ CountsRound old new round k _ None = ⊥
 
 -- The bytes that are gone are k rounds, whatever follows them: this was counted of them, and as many blocks were taken
 -- as they need.
-pub record Ahead (blocks : ℕ) (options : Options) (k : ℕ) (from to : Place) (old new : Counts) (before now : ℕ)
+pub record CountsAhead (blocks : ℕ) (options : Options) (k : ℕ) (from to : Place) (old new : Counts) (before now : ℕ)
     (bytes left : List ℕ) : Type 0 where
   pub gone : List ℕ
   pub counts : Counts
@@ -62,8 +62,8 @@ pub record Ahead (blocks : ℕ) (options : Options) (k : ℕ) (from to : Place) 
   pub size : length packets ≡ k * options.budget
 
 -- from here on checking ends so, behind k rounds
-abbrev pub EndsBehind : ℕ → ℕ → Options → Place → Counts → Counts → CheckEnd → List ℕ → List ℕ → Type 0
-EndsBehind k blocks options from old new end bytes left =
+abbrev pub EndsCounting : ℕ → ℕ → Options → Place → Counts → Counts → CheckEnd → List ℕ → List ℕ → Type 0
+EndsCounting k blocks options from old new end bytes left =
     (ending : Ending) × (ending_of end ≡ ending_behind k ending)
     × Tallies (counting blocks options from) old new ending bytes left
 
@@ -79,7 +79,7 @@ pub record MayCount (round : RoundState) (bench : BenchState) (pool : PoolState)
   pub may : MayBring round.blocks bench pool
   pub lent : IsLent giver
   pub keep : bench.keep ≡ true
-  pub read : IsRead round
+  pub read : IsReadRound round
   pub lanes : HasLanes (options_at bench) totals
   pub within : (n : ℕ) × (n ≤ 2 ^ 32) × AreOf n totals
 

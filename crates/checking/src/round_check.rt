@@ -23,7 +23,7 @@ fn check_worked(plan: &LanePlan, worked: &Worked) -> Result<Totals, AllocError>
         → IfOk result (λ totals. totals ≡ round_totals (options_by plan.now budget) ps) }
 {
     let lanes = worked.lanes();
-    check_lanes(*lanes.queues.allocator(), lanes, worked.kept())
+    check_lanes(*lanes.queues.allocator(), lanes, worked.clones())
 }
 
 // As `check_round`, of the side that works.

@@ -13,7 +13,7 @@ use Rattle.rounds.specs.Benches.{AreOne, HasRoom, IsSameBench}
 use Rattle.rounds.specs.RoundsState.{BenchState, RoundsState, IntakeState}
 use Rattle.rounds.specs.Weights.{weights_of}
 use Rattle.pipeline.specs.declared.parcel.Parcel.{Parcel}
-use Rattle.pipeline.specs.Handled.{RanOn, HandledOn, MayGoOn, IsOut, Idle, MayBeHandled, ComesBack, weights_out}
+use Rattle.pipeline.specs.Handled.{RanOn, HandledOn, MayGoOn, IsFirstOut, Idle, MayBeHandled, ComesBack, weights_out}
 use Rattle.pipeline.specs.Parcels.{rounds_of, weights_sent}
 use Rattle.pipeline.specs.Reads.{ReadOn, IsAlone}
 use Rattle.rounds.proofs.Going.{counted_as, few_none, few_then, gave_none, gave_then, ready_as}
@@ -224,15 +224,15 @@ module _ {T E : Type 0} (did : Options → T → T → RoundRead → ℕ → Opt
 
   -- the first round is out still
   pub idle_out : (old new : RoundsState) (read back : RoundRead) (from to : Spot) (was is : T) → back ≡ read → Idle old new from to was is
-      → IsOut (ready (options_of old) old.keep) old read from.place was → IsOut (ready (options_of new) new.keep) new back to.place is
+      → IsFirstOut (ready (options_of old) old.keep) old read from.place was → IsFirstOut (ready (options_of new) new.keep) new back to.place is
   idle_out old new read back from to was is same idle out =
-      let here : IsOut (ready (options_of new) new.keep) new read to.place is = record {
+      let here : IsFirstOut (ready (options_of new) new.keep) new read to.place is = record {
         out = omega (arith, idle.named (λ _. 1), ones new.stock, ones old.stock, idle.same.0, out.out);
         is = out.is;
         goes = λ full. subst (λ (s : Spot). MayGoOn read s.place) (sym idle.stands) (out.goes full);
         start = ready_as did stopped ready (options_of new) (options_of old) new.keep old.keep 0 is (sym idle.same.1) (sym idle.same.2) (subst (ready (options_of old) old.keep 0) (sym idle.nothing) out.start);
       } in
-      subst (λ (r : RoundRead). IsOut (ready (options_of new) new.keep) new r to.place is) (sym same) here
+      subst (λ (r : RoundRead). IsFirstOut (ready (options_of new) new.keep) new r to.place is) (sym same) here
 
   -- one side alone, where nothing else was read
   pub idle_went : (old mid new : RoundsState) (read back : RoundRead) (from at to : Spot) (was between is : T) (end : E) → back ≡ read → Idle old mid from at was between

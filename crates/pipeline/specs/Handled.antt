@@ -9,7 +9,7 @@ use Rattle.pcap_io.specs.Places.{IsReady}
 use Rattle.rounds.specs.declared.round_stages.RoundEnd.TheVariants as ends
 use Rattle.rounds.specs.declared.round_stages.RoundRead.{RoundRead}
 use Rattle.rounds.specs.declared.spares.Spares.{Spares}
-use Rattle.rounds.specs.Benches.{HasRoom, IsLent, IsRead, IsSameBench, Lends}
+use Rattle.rounds.specs.Benches.{HasRoom, IsLent, IsReadRound, IsSameBench, Lends}
 use Rattle.rounds.specs.Handled.{Ends, FewPauses, GaveSpares, IsReadyAtEnd, Rests}
 use Rattle.rounds.specs.Merging.{options_of}
 use Rattle.rounds.specs.Reads.{Spot, Reads, is_full}
@@ -47,10 +47,10 @@ pub record MayGoOn (read : RoundRead) (place : Place) : Type 0 where
   pub counted : 1 ≤ place.number
 
 -- a round was read up to here and is out, and nothing is done yet
-pub record IsOut {T : Type 0} (starts : ℕ → T → Type 0) (rounds : RoundsState) (read : RoundRead) (place : Place)
+pub record IsFirstOut {T : Type 0} (starts : ℕ → T → Type 0) (rounds : RoundsState) (read : RoundRead) (place : Place)
     (into : T) : Type 0 where
   pub out : length rounds.stock + read.round.blocks ≡ rounds.blocks
-  pub is : IsRead read.round
+  pub is : IsReadRound read.round
   pub goes : read.end ≡ ends.Full → MayGoOn read place
   pub start : starts 0 into
 

@@ -4,18 +4,18 @@ ghost use Rattle.std.specs.Prelude.{true, None, Ok, IfSome, IfOk, OnOk};
 ghost use Rattle.std.specs.Arc.{arc_value};
 ghost use Rattle.block_pool.specs.PoolState.{home};
 ghost use Rattle.pcap_io.specs.Readers.{place_of, SameLoan};
-ghost use Rattle.rounds.specs.Benches.{HasRoom, IsRead, IsSameBench};
+ghost use Rattle.rounds.specs.Benches.{HasRoom, IsReadRound, IsSameBench};
 ghost use Rattle.rounds.specs.Handled.{Handled};
 ghost use Rattle.rounds.specs.Merging.{options_of};
 ghost use Rattle.rounds.specs.Reads.{reader_at};
 ghost use Rattle.rtrb.specs.Ring.{sent, received, known_items, IsPair, SameProducer};
-ghost use Rattle.pipeline.specs.Handled.{ComesBack, HandledOn, IsOut, MayBeHandled, MayHandle};
+ghost use Rattle.pipeline.specs.Handled.{ComesBack, HandledOn, IsFirstOut, MayBeHandled, MayHandle};
 ghost use Rattle.pipeline.specs.Reads.{IsAlone};
 
 use crate::gather::{bring_home, drop_parcels};
 use crate::here::handle_here;
-use crate::parcel::{Fits, Parcel};
-use crate::sides::{Reading, is_full, run_sides};
+use crate::parcel::{Parcel, RoundsInTurn};
+use crate::sides::{ReaderSide, is_full, run_sides};
 use block_pool::Pool;
 use crossing::{
     Arrivals, Away, Handshake, IN_RING, PoolName, Sleeper, Way, new_spent, open_way, send,
@@ -38,8 +38,8 @@ fn prepare<N: PoolName>(
     bench: &mut Bench,
 ) -> Result<
     (
-        Producer<Parcel, Global, Fits<N>>,
-        Consumer<Parcel, Global, Fits<N>>,
+        Producer<Parcel, Global, RoundsInTurn<N>>,
+        Consumer<Parcel, Global, RoundsInTurn<N>>,
         Pool,
         Pool,
         Vec<Pool>,
@@ -53,7 +53,7 @@ fn prepare<N: PoolName>(
     ensures same { IsSameBench bench.old bench.new }
 {
     let blocks = bench.blocks();
-    let (out, from) = RingBuffer::with_protocol::<Global, Fits<N>>(alloc, IN_RING)?;
+    let (out, from) = RingBuffer::with_protocol::<Global, RoundsInTurn<N>>(alloc, IN_RING)?;
     let list = Pool::empty(alloc, blocks)?;
     let next = Pool::empty(alloc, blocks)?;
     let spent = new_spent(alloc, blocks)?;
@@ -64,13 +64,13 @@ fn prepare<N: PoolName>(
 // The first round goes by the ring before there are two sides.
 fn send_first<N: PoolName, R: Wait>(
     rt: &R,
-    out: &mut Producer<Parcel, Global, Fits<N>>,
+    out: &mut Producer<Parcel, Global, RoundsInTurn<N>>,
     read: RoundRead,
     spent: Pool,
 )
     requires none { sent out.old ≡ [] }
     requires within { read.round.blocks ≤ N.blocks }
-    requires read { IsRead read.round }
+    requires read { IsReadRound read.round }
     ensures ring { SameProducer out.old out.new }
     ensures sent { IsAlone read (sent out.new) }
 {
@@ -86,7 +86,7 @@ fn send_first<N: PoolName, R: Wait>(
 fn take_back<N: PoolName, T, E, H: RoundHandler<T, E>>(
     waiting: usize,
     handler: &H,
-    from: &mut Consumer<Parcel, Global, Fits<N>>,
+    from: &mut Consumer<Parcel, Global, RoundsInTurn<N>>,
 ) -> Result<E, RoundRead>
     requires waiting { waiting ≡ length (known_items from.old) }
     ensures back { ComesBack H.stopped (known_items from.old) (known_items from.new) result }
@@ -104,7 +104,7 @@ fn ending<N: PoolName, T, E, H: RoundHandler<T, E>>(
     end: Option<E>,
     waiting: usize,
     handler: &H,
-    from: &mut Consumer<Parcel, Global, Fits<N>>,
+    from: &mut Consumer<Parcel, Global, RoundsInTurn<N>>,
 ) -> Result<E, RoundRead>
     requires waiting { waiting ≡ length (known_items from.old) }
     ensures some { IfSome end (λ e. (result ≡ Ok e) × (known_items from.new ≡ known_items from.old)) }
@@ -137,7 +137,7 @@ fn handle_named<
     into: &mut T,
     way: Way,
 ) -> Result<E, RoundRead>
-    requires out { IsOut (H.ready (options_of rounds.old) rounds.old.keep) rounds.old read (place_of reader.old)
+    requires out { IsFirstOut (H.ready (options_of rounds.old) rounds.old.keep) rounds.old read (place_of reader.old)
         into.old }
     requires gives { W.gives ≡ true }
     requires full { read.end ≡ RoundEnd.Full }
@@ -163,7 +163,7 @@ fn handle_named<
     let mut giver = Some(giver);
     let handshake = Handshake::new(bell);
     let post = Sleeper::<'_, R, N>::new(rt, &handshake);
-    let mut supply = Reading {
+    let mut supply = ReaderSide {
         arrivals: Arrivals::new(post, blocks, away, spent, taker),
         out,
     };
@@ -183,7 +183,7 @@ fn handle_named<
         &mut from,
         &handshake,
     );
-    let Reading { arrivals, mut out } = supply;
+    let ReaderSide { arrivals, mut out } = supply;
     let waiting = from.slots_beside(&mut out);
     let taker = arrivals.close();
     let ended = ending::<N, T, E, H>(end, waiting, handler, &mut from);
@@ -204,7 +204,7 @@ fn handle_on<R: Threads + Wait + Sync, W: Works, S: Source + Send, T, E, H: Roun
     handler: &H,
     into: &mut T,
 ) -> E
-    requires out { IsOut (H.ready (options_of rounds.old) rounds.old.keep) rounds.old read (place_of reader.old)
+    requires out { IsFirstOut (H.ready (options_of rounds.old) rounds.old.keep) rounds.old read (place_of reader.old)
         into.old }
     requires gives { W.gives ≡ true }
     requires full { read.end ≡ RoundEnd.Full }

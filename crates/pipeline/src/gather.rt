@@ -9,7 +9,7 @@ ghost use Rattle.block_supply.specs.Lists.{HasGiver, weights_listed};
 ghost use Rattle.rounds.specs.Benches.{fulls_by};
 ghost use Rattle.pipeline.specs.Parcels.{blocks_sent, weights_sent};
 
-use crate::parcel::{Fits, Parcel};
+use crate::parcel::{Parcel, RoundsInTurn};
 use block_pool::{Giver, Pool};
 use block_supply::Taker;
 use crossing::PoolName;
@@ -21,7 +21,7 @@ use std::sync::Wait;
 /// The rounds that nobody worked.
 pub(crate) fn drop_parcels<N: PoolName>(
     rounds: &mut Rounds,
-    from: &mut Consumer<Parcel, Global, Fits<N>>,
+    from: &mut Consumer<Parcel, Global, RoundsInTurn<N>>,
 )
     requires room { length rounds.old.stock + blocks_sent (known_items from.old) ≤ rounds.old.blocks }
     ensures same { rounds.new ≡ record rounds.old { stock = rounds.new.stock } }

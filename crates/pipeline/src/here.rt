@@ -2,7 +2,7 @@
 ghost use Rattle.pcap_io.specs.Readers.{place_of, SameLoan};
 ghost use Rattle.rounds.specs.Merging.{options_of};
 ghost use Rattle.rounds.specs.Reads.{reader_at};
-ghost use Rattle.pipeline.specs.Handled.{HandledOn, IsOut};
+ghost use Rattle.pipeline.specs.Handled.{HandledOn, IsFirstOut};
 
 use lanes::Works;
 use off_io::Source;
@@ -18,7 +18,7 @@ pub(crate) fn handle_here<W: Works, S: Source, T, E, H: RoundHandler<T, E>>(
     handler: &H,
     into: &mut T,
 ) -> E
-    requires out { IsOut (H.ready (options_of rounds.old) rounds.old.keep) rounds.old read (place_of reader.old)
+    requires out { IsFirstOut (H.ready (options_of rounds.old) rounds.old.keep) rounds.old read (place_of reader.old)
         into.old }
     ensures same_source { SameLoan reader.old reader.new }
     ensures handled { HandledOn (H.did handler.now (options_of rounds.old)) H.stopped

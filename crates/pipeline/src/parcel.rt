@@ -41,11 +41,11 @@ impl Drop for Parcel {
 }
 
 /// Rounds come in turn, and each fits the blocks.
-pub(crate) struct Fits<N: PoolName> {
+pub(crate) struct RoundsInTurn<N: PoolName> {
     of: PhantomData<N>,
 }
 
-impl<N: PoolName> Protocol<Parcel> for Fits<N> {
+impl<N: PoolName> Protocol<Parcel> for RoundsInTurn<N> {
     ghost use Rattle.pipeline.specs.Parcels.{IsFit};
 
     ghost allows = { λ before x. IsFit N.blocks before x };

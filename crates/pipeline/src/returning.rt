@@ -5,7 +5,7 @@ ghost use Rattle.rounds.specs.Benches.{HasRoom, IsLent, IsSameBench};
 ghost use Rattle.rtrb.specs.Ring.{known_items, received, SameConsumer};
 ghost use Rattle.pipeline.specs.Parcels.{Fitting, Returns, IsLeft};
 
-use crate::parcel::{Fits, Parcel};
+use crate::parcel::{Parcel, RoundsInTurn};
 use block_pool::{Giver, Pool};
 use core::mem::replace;
 use crossing::{Handshake, PoolName, has_come};
@@ -43,7 +43,7 @@ fn give_again<R: Wait>(rt: &R, alloc: Global, giver: &mut Option<Giver>, list: &
 // The round that waits, where its blocks have places beside those of a list.
 fn take_fitting<N: PoolName>(
     list: &Pool,
-    from: &mut Consumer<Parcel, Global, Fits<N>>,
+    from: &mut Consumer<Parcel, Global, RoundsInTurn<N>>,
 ) -> Option<Parcel>
     requires waits { 0 < length (known_items from.old) }
     ensures ring { SameConsumer from.old from.new }
@@ -64,7 +64,7 @@ pub(crate) fn next_round<N: PoolName, R: Wait>(
     alloc: Global,
     giver: &mut Option<Giver>,
     list: &mut Pool,
-    from: &mut Consumer<Parcel, Global, Fits<N>>,
+    from: &mut Consumer<Parcel, Global, RoundsInTurn<N>>,
     handshake: &Handshake,
 ) -> Option<Parcel>
     requires lent { IsLent giver.old }

@@ -8,7 +8,7 @@ ghost use Rattle.rtrb.specs.Ring.{sent, received, SameProducer, SameConsumer};
 ghost use Rattle.pipeline.specs.Handled.{HasWorked, MayWork};
 ghost use Rattle.pipeline.specs.Reads.{HasRead, MayRead};
 
-use crate::parcel::{Fits, Parcel};
+use crate::parcel::{Parcel, RoundsInTurn};
 use crate::returning::{give_back, make_ready, next_round};
 use block_pool::{Giver, Pool};
 use crossing::{Arrivals, Handshake, PoolName, Post, send};
@@ -23,9 +23,9 @@ use std::thread::{Threads, join_mut};
 
 /// What the side that reads works with, beside its intake.
 #[derive(Drop)]
-pub(crate) struct Reading<W: Post + Drop, N: PoolName> {
+pub(crate) struct ReaderSide<W: Post + Drop, N: PoolName> {
     pub(crate) arrivals: Arrivals<W>,
-    pub(crate) out: Producer<Parcel, Global, Fits<N>>,
+    pub(crate) out: Producer<Parcel, Global, RoundsInTurn<N>>,
 }
 
 /// Whether another round may follow.
@@ -44,7 +44,7 @@ fn read_side<N: PoolName, R: Wait, P: Post + Drop, S: Source>(
     rt: &R,
     reader: &mut CaptureReader<'_, S>,
     intake: &mut Intake,
-    supply: &mut Reading<P, N>,
+    supply: &mut ReaderSide<P, N>,
 )
     requires reads { MayRead N.blocks intake.old (place_of reader.old) (sent supply.old.out) }
     ensures ring { SameProducer supply.old.out supply.new.out }
@@ -103,7 +103,7 @@ fn work_rounds<N: PoolName, R: Wait, W: Works, T, E, H: RoundHandler<T, E>>(
     spares: &mut Spares,
     handler: &H,
     into: &mut T,
-    from: &mut Consumer<Parcel, Global, Fits<N>>,
+    from: &mut Consumer<Parcel, Global, RoundsInTurn<N>>,
     handshake: &Handshake,
 ) -> E
     requires gives { W.gives ≡ true }
@@ -148,7 +148,7 @@ fn work_side<N: PoolName, R: Wait, W: Works, T, E, H: RoundHandler<T, E>>(
     spares: &mut Spares,
     handler: &H,
     into: &mut T,
-    from: &mut Consumer<Parcel, Global, Fits<N>>,
+    from: &mut Consumer<Parcel, Global, RoundsInTurn<N>>,
     handshake: &Handshake,
 ) -> Option<E>
     requires gives { W.gives ≡ true }
@@ -192,8 +192,8 @@ pub(crate) fn run_sides<
     reader: &'a mut CaptureReader<'_, S>,
     handler: &'a H,
     into: &'a mut T,
-    supply: &'a mut Reading<P, N>,
-    from: &'a mut Consumer<Parcel, Global, Fits<N>>,
+    supply: &'a mut ReaderSide<P, N>,
+    from: &'a mut Consumer<Parcel, Global, RoundsInTurn<N>>,
     handshake: &'a Handshake,
 ) -> Option<E>
     requires reads { MayRead N.blocks intake.old (place_of reader.old) (sent supply.old.out) }

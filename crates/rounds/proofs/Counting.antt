@@ -7,7 +7,7 @@ use Rattle.gro.specs.Slots.{weighed_slots}
 use Rattle.gro.proofs.Weights.{weighed_last}
 use Rattle.reading.proofs.Laying.{weighed_none}
 use Rattle.skb.specs.SkbState.{weighed_in}
-use Rattle.rounds.specs.RoundOf.{at_hand, Brought, Came, Takes}
+use Rattle.rounds.specs.RoundOf.{at_hand, Brought, Came, TakesBlocks}
 
 -- ---- its blocks are among those that were made
 
@@ -17,7 +17,7 @@ fits_type a b c = omega arith
 -- ---- how many were taken
 
 pub takes_last : {made mid : ℕ} (now from to before after : ℕ) → mid ≡ made → after ≤ made → before ≤ after → now ≡ min (from + (after - before)) (2 ^ 64 - 1) → from ≤ now → now + before ≤ from + after
-    → now ≤ to → to + after ≤ now + mid → Takes made from to before after
+    → now ≤ to → to + after ≤ now + mid → TakesBlocks made from to before after
 takes_last now from to before after same within more taken least most rose last = record {
   within = within;
   taken = omega arith;

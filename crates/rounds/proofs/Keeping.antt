@@ -39,12 +39,12 @@ use Rattle.reading.specs.Laid.{AreRead, IsRead, LaidFrom}
 use Rattle.reading.proofs.Laying.{laid_all}
 use Rattle.rounds.specs.Fresh.{NumberedFrom}
 use Rattle.rounds.specs.Held.{Fits}
-use Rattle.rounds.specs.Kept.{IsKept, IsDone, IsLeft, IsOfLanes, IsOneRound, IsOutBeside, IsPrepared}
+use Rattle.rounds.specs.Prepared.{IsPrepared, IsWorkDone, IsWorkLeft, IsOfLanes, IsOneRound, IsOutBeside, ArePrepared}
 use Rattle.rounds.specs.Lanes.{AreSpent, AreShortTexts, IsKeptWorkOf, IsShortText, IsSmallQueue, IsSmallTap, IsSmallWork}
 use Rattle.rounds.specs.Marks.{IsNamed, IsRound}
 use Rattle.rounds.specs.Out.{IsOut}
 use Rattle.rounds.specs.RoundsState.{RestState, WorkedState}
-use Rattle.rounds.specs.declared.lane_work.Kept.{Kept}
+use Rattle.rounds.specs.declared.lane_work.Prepared.{Prepared}
 use Rattle.rounds.proofs.Naming.{lent_named, marks_weigh, name_at, names_are}
 use Rattle.rounds.proofs.Places.{named_keeps}
 use Rattle.rounds.proofs.Small.{captured_fit}
@@ -89,8 +89,8 @@ rise j k (p ∷ ps) le h = (omega (arith, le, h.0), rise (p.number + 1) (k + 1) 
 -- ---- before the work of the lanes
 
 -- nobody else is to hold a block
-pub prepared_alone : (ps : List Held) (kept : List TapClone) → LaidFrom 0 ps → AreRead ps → AllByRecursion IsCaptured (map packet_of ps) → kept ≡ [] → IsPrepared false ps ps kept
-prepared_alone ps kept laid read captured none = record {
+pub prepared_alone : (ps : List Held) (clones : List TapClone) → LaidFrom 0 ps → AreRead ps → AllByRecursion IsCaptured (map packet_of ps) → clones ≡ [] → ArePrepared false ps ps clones
+prepared_alone ps clones laid read captured none = record {
   same = refl;
   held = are_held ps read captured;
   weighs = weigh_less (weight_after 1) full_weight ps (omega arith) (weigh_alone ps (laid_all 0 ps laid));
@@ -100,9 +100,9 @@ prepared_alone ps kept laid read captured none = record {
 }
 
 -- heads were shared, rs, and then a clone of each packet was kept, if that was wanted
-pub prepared_shared : (ps rs qs : List Held) (kept : List TapClone) → LaidFrom 0 ps → AreLent ps rs → AreAfter 1 rs qs → Keeps (of_packets rs) (both (of_packets qs) (of_clones kept))
-    → KeepsBlocks (of_packets rs) (both (of_packets qs) (of_clones kept)) → blocks_of kept ≤ counts_of rs → IsPrepared true ps qs kept
-prepared_shared ps rs qs kept laid lent after keeps blocks fewer =
+pub prepared_shared : (ps rs qs : List Held) (clones : List TapClone) → LaidFrom 0 ps → AreLent ps rs → AreAfter 1 rs qs → Keeps (of_packets rs) (both (of_packets qs) (of_clones clones))
+    → KeepsBlocks (of_packets rs) (both (of_packets qs) (of_clones clones)) → blocks_of clones ≤ counts_of rs → ArePrepared true ps qs clones
+prepared_shared ps rs qs clones laid lent after keeps blocks fewer =
     let counts = lent_counts ps rs lent in
     record {
       same = after.same ∙ lent_packets ps rs lent;
@@ -112,27 +112,27 @@ prepared_shared ps rs qs kept laid lent after keeps blocks fewer =
       named = λ h. after.named h ∙ weighed_lent ps rs lent h;
       round = record {
         heads = after.shared;
-        round = round_keeps (counts_of ps) (of_packets rs) (both (of_packets qs) (of_clones kept)) keeps (fresh_round (counts_of ps) (of_packets rs) (fresh_lent 0 ps rs laid lent));
+        round = round_keeps (counts_of ps) (of_packets rs) (both (of_packets qs) (of_clones clones)) keeps (fresh_round (counts_of ps) (of_packets rs) (fresh_lent 0 ps rs laid lent));
         names = name_at ps;
-        named = named_keeps (name_at ps) (of_packets rs) (both (of_packets qs) (of_clones kept)) blocks (lent_named (name_at ps) 0 ps rs laid lent (names_are ps));
+        named = named_keeps (name_at ps) (of_packets rs) (both (of_packets qs) (of_clones clones)) blocks (lent_named (name_at ps) 0 ps rs laid lent (names_are ps));
         weights = λ h. marks_weigh (name_at ps) h 0 ps (names_are ps) ∙ sym (after.named h ∙ weighed_lent ps rs lent h);
         counts = omega (arith, after.counts, counts, fewer);
       };
     }
 
 -- without lanes that hold anything
-pub out_idle : (shared : Bool) (n : ℕ) (qs : List Held) (lanes : Lanes) (kept : List TapClone) → AreIdle lanes → IsOneRound shared n qs kept → IsOut shared n qs lanes kept
-out_idle true n qs lanes kept idle r = record {
-  round = round_keeps n (both (of_packets qs) (of_clones kept)) (both (of_packets qs) (both (of_lanes lanes) (of_clones kept)))
+pub out_idle : (shared : Bool) (n : ℕ) (qs : List Held) (lanes : Lanes) (clones : List TapClone) → AreIdle lanes → IsOneRound shared n qs clones → IsOut shared n qs lanes clones
+out_idle true n qs lanes clones idle r = record {
+  round = round_keeps n (both (of_packets qs) (of_clones clones)) (both (of_packets qs) (both (of_lanes lanes) (of_clones clones)))
       (λ t m. let a = idle_lanes lanes idle t m in (omega (arith, a.0), omega (arith, a.0, a.1))) r.round;
   names = r.names;
-  named = named_keeps r.names (both (of_packets qs) (of_clones kept)) (both (of_packets qs) (both (of_lanes lanes) (of_clones kept)))
+  named = named_keeps r.names (both (of_packets qs) (of_clones clones)) (both (of_packets qs) (both (of_lanes lanes) (of_clones clones)))
       (λ bs m. omega (arith, idle_lanes lanes idle (every bs) m)) r.named;
   weights = λ h. omega (arith, r.weights h, idle_weighed h lanes.queues.items idle.0);
   counts = omega (arith, r.counts, idle_counts lanes.queues.items idle.0);
   spent = idle_clones lanes.taps.items idle.1;
 }
-out_idle false n qs lanes kept idle r = record {
+out_idle false n qs lanes clones idle r = record {
   packets = r.packets;
   queues = idle_alone lanes.queues.items idle.0;
   count = omega (arith, r.count, idle_counts lanes.queues.items idle.0);
@@ -141,16 +141,16 @@ out_idle false n qs lanes kept idle r = record {
 }
 
 -- packets as they were read, without lanes or clones
-pub out_alone : (n : ℕ) (ps : List Held) (lanes : Lanes) (kept : List TapClone) → LaidFrom 0 ps → counts_of ps ≡ n → AreIdle lanes → kept ≡ [] → IsOut false n ps lanes kept
-out_alone n ps lanes kept laid count idle none = out_idle false n ps lanes kept idle (record { packets = laid_all 0 ps laid; count = count; none = none })
+pub out_alone : (n : ℕ) (ps : List Held) (lanes : Lanes) (clones : List TapClone) → LaidFrom 0 ps → counts_of ps ≡ n → AreIdle lanes → clones ≡ [] → IsOut false n ps lanes clones
+out_alone n ps lanes clones laid count idle none = out_idle false n ps lanes clones idle (record { packets = laid_all 0 ps laid; count = count; none = none })
 
-head_shared : (shared : Bool) (n : ℕ) (qs : List Held) (kept : List TapClone) → IsOneRound shared n qs kept → shared ≡ true → AreShared qs
-head_shared true n qs kept r on = r.heads
-head_shared false n qs kept r on = absurd (false≢true on)
+head_shared : (shared : Bool) (n : ℕ) (qs : List Held) (clones : List TapClone) → IsOneRound shared n qs clones → shared ≡ true → AreShared qs
+head_shared true n qs clones r on = r.heads
+head_shared false n qs clones r on = absurd (false≢true on)
 
 -- so much of a round that isn't a spare
-pub at_count : (shared : Bool) (m n : ℕ) (qs : List Held) (kept : List TapClone) → m ≡ n → IsOneRound shared m qs kept → IsOneRound shared n qs kept
-at_count shared m n qs kept e r = subst (λ (i : ℕ). IsOneRound shared i qs kept) e r
+pub at_count : (shared : Bool) (m n : ℕ) (qs : List Held) (clones : List TapClone) → m ≡ n → IsOneRound shared m qs clones → IsOneRound shared n qs clones
+at_count shared m n qs clones e r = subst (λ (i : ℕ). IsOneRound shared i qs clones) e r
 
 sole_from : (keep : Bool) (taps : ℕ) → (keep ≡ true) ⊎ (1 ≤ taps) → keep ≡ false → taps ≡ 0 → ⊥
 sole_from keep taps (inl on) off none = absurd (false≢true (sym off ∙ on))
@@ -160,22 +160,22 @@ sole_of : (shared keep : Bool) (taps : ℕ) → (shared ≡ true → (keep ≡ t
 sole_of false keep taps only off none = refl
 sole_of true keep taps only off none = absurd (sole_from keep taps (only refl) off none)
 
-pub are_kept : (keep : Bool) (taps n : ℕ) (ps : List Held) (k : Kept) → k.blocks ≡ n → counts_of ps + home k.spares ≡ n → AllByRecursion IsCaptured (map packet_of ps)
-    → (j : ℕ) × NumberedFrom j ps → n ≤ 65536 → (k.shared ≡ true → (keep ≡ true) ⊎ (1 ≤ taps)) → IsPrepared k.shared ps k.packets.items k.kept.items
-    → (keep ≡ true → map packet_of_clone k.kept.items ≡ map packet_of ps)
-    → IsKept keep taps (map packet_of ps) n k
-are_kept keep taps n ps k size counts captured numbers few only p clones = record {
+pub is_prepared : (keep : Bool) (taps n : ℕ) (ps : List Held) (k : Prepared) → k.blocks ≡ n → counts_of ps + home k.spares ≡ n → AllByRecursion IsCaptured (map packet_of ps)
+    → (j : ℕ) × NumberedFrom j ps → n ≤ 65536 → (k.shared ≡ true → (keep ≡ true) ⊎ (1 ≤ taps)) → ArePrepared k.shared ps k.packets.items k.clones.items
+    → (keep ≡ true → map packet_of_clone k.clones.items ≡ map packet_of ps)
+    → IsPrepared keep taps (map packet_of ps) n k
+is_prepared keep taps n ps k size counts captured numbers few only p clones = record {
   same = p.same;
   size = size;
   held = p.held;
-  shown = head_shared k.shared (counts_of ps) k.packets.items k.kept.items p.round;
+  shown = head_shared k.shared (counts_of ps) k.packets.items k.clones.items p.round;
   weighs = p.weighs;
   rising = subst (RiseFrom 0) (sym p.same) (rise 0 numbers.0 ps (omega arith) numbers.1);
   fit = subst (AllByRecursion Fits) (sym p.same) (captured_fit (map packet_of ps) captured);
   few = omega (arith, p.count, counts, few);
   spares = omega (arith, counts, size);
   sole = sole_of k.shared keep taps only;
-  round = at_count k.shared (counts_of ps) (k.blocks - home k.spares) k.packets.items k.kept.items (omega (arith, counts, size)) p.round;
+  round = at_count k.shared (counts_of ps) (k.blocks - home k.spares) k.packets.items k.clones.items (omega (arith, counts, size)) p.round;
   clones = clones;
 }
 
@@ -231,23 +231,23 @@ ok_of : {E : Type 0} (r : Result (Unit {0}) E) (P : Type 0) → r ≡ Ok tt → 
 ok_of r P e h = subst (λ z. OnOk z P) e h
 
 -- packets went from ps to qs and to the lanes
-pub out_worked : (shared : Bool) (plan : LanePlan) (n : ℕ) (ps qs : List Held) (lanes : Lanes) (kept : List TapClone) → IsOneRound shared n ps kept
+pub out_worked : (shared : Bool) (plan : LanePlan) (n : ℕ) (ps qs : List Held) (lanes : Lanes) (clones : List TapClone) → IsOneRound shared n ps clones
     → Keeps (of_packets ps) (both (of_packets qs) (of_lanes lanes)) → KeepsBlocks (of_packets ps) (both (of_packets qs) (of_lanes lanes))
     → ((h : ℕ → ℕ) → weighed_slots h qs + weighed_queues h lanes.queues.items ≡ weighed_slots h ps) → counts_of qs + counts_of_queues lanes.queues.items ≡ counts_of ps → AreSpent lanes.taps.items
     → (IsUncloned shared plan → AreAlone ps → AreAlone qs × All (λ (l : QueueLane). AreAlone l.packets.items) lanes.queues.items)
     → (IsUncloned shared plan → All IsIdleTap lanes.taps.items)
-    → IsOut shared n qs lanes kept
-out_worked true plan n ps qs lanes kept r keeps blocks named count spent alone idle = record {
-  round = round_keeps n (both (of_packets ps) (of_clones kept)) (both (of_packets qs) (both (of_lanes lanes) (of_clones kept)))
+    → IsOut shared n qs lanes clones
+out_worked true plan n ps qs lanes clones r keeps blocks named count spent alone idle = record {
+  round = round_keeps n (both (of_packets ps) (of_clones clones)) (both (of_packets qs) (both (of_lanes lanes) (of_clones clones)))
       (λ t m. let x = keeps t m in (omega (arith, x.0), omega (arith, x.0, x.1))) r.round;
   names = r.names;
-  named = named_keeps r.names (both (of_packets ps) (of_clones kept)) (both (of_packets qs) (both (of_lanes lanes) (of_clones kept)))
+  named = named_keeps r.names (both (of_packets ps) (of_clones clones)) (both (of_packets qs) (both (of_lanes lanes) (of_clones clones)))
       (λ bs m. omega (arith, blocks bs m)) r.named;
   weights = λ h. omega (arith, r.weights h, named h);
   counts = omega (arith, r.counts, count);
   spent = spent;
 }
-out_worked false plan n ps qs lanes kept r keeps blocks named count spent alone idle =
+out_worked false plan n ps qs lanes clones r keeps blocks named count spent alone idle =
     let a = alone (inl refl) r.packets in
     record {
       packets = a.0;
@@ -258,41 +258,41 @@ out_worked false plan n ps qs lanes kept r keeps blocks named count spent alone 
     }
 
 -- the same round, but that some of its packets went to the lanes, and some of its spares to others
-pub record IsLess (k j : Kept) : Type 0 where
+pub record IsLess (k j : Prepared) : Type 0 where
   pub same : record j { packets = k.packets; spares = k.spares; blocks = k.blocks } ≡ k
   pub spares : home j.spares ≤ j.blocks
   pub count : j.blocks - home j.spares ≡ k.blocks - home k.spares
 
 -- what is out with it
-beside : (k j : Kept) (l : Lanes) → IsLess k j → IsOut k.shared (k.blocks - home k.spares) j.packets.items l k.kept.items → IsOutBeside j l
+beside : (k j : Prepared) (l : Lanes) → IsLess k j → IsOut k.shared (k.blocks - home k.spares) j.packets.items l k.clones.items → IsOutBeside j l
 beside k j l less out = (
   less.spares,
-  subst (λ (n : ℕ). IsOut j.shared n j.packets.items l j.kept.items) (sym less.count)
-      (subst (λ (z : Kept). IsOut z.shared (k.blocks - home k.spares) j.packets.items l z.kept.items) (sym less.same) out),
+  subst (λ (n : ℕ). IsOut j.shared n j.packets.items l j.clones.items) (sym less.count)
+      (subst (λ (z : Prepared). IsOut z.shared (k.blocks - home k.spares) j.packets.items l z.clones.items) (sym less.same) out),
 )
 
-module _ {E : Type 0} (keep : Bool) (ps : List Packet) (n : ℕ) (plan : LanePlan) (k j : Kept) (is : IsPlan plan) (kept : IsKept keep plan.taps ps n k)
+module _ {E : Type 0} (keep : Bool) (ps : List Packet) (n : ℕ) (plan : LanePlan) (k j : Prepared) (is : IsPlan plan) (prepared : IsPrepared keep plan.taps ps n k)
     (less : IsLess k j) where
   pub settles : (r : Result (Unit {0}) E) (l : Lanes) → OnOk r (AreMerged plan.segs (spread_of plan) plan.queues (map packet_of k.packets.items) l.queues.items)
       → OnOk r (AreWatched plan.snap plan.taps (shown_by plan (map packet_of k.packets.items)) l.taps.items)
       → OnOk r (All IsMerged l.queues.items)
       → OnOk r (EachFrom (λ q (l : QueueLane). map packet_of l.packets.items ≡ filter (is_queued (spread_of plan) q) (map packet_of k.packets.items)) 0 l.queues.items)
       → OnOk r (j.packets.items ≡ [])
-      → IsOut k.shared (k.blocks - home k.spares) j.packets.items l k.kept.items
-      → MatchResult r (λ _. IsDone j l) (λ _. IsLeft j l)
+      → IsOut k.shared (k.blocks - home k.spares) j.packets.items l k.clones.items
+      → MatchResult r (λ _. IsWorkDone j l) (λ _. IsWorkLeft j l)
   settles (Ok u) l merged watched are packets all out = record {
     all = all;
     out = beside k j l less out;
-    small = small_lanes plan (map packet_of k.packets.items) l is kept.fit merged are packets watched;
+    small = small_lanes plan (map packet_of k.packets.items) l is prepared.fit merged are packets watched;
   }
   settles (Err e) l merged watched are packets all out = beside k j l less out
 
 -- all that a comparison wants to know of what the lanes came to
-pub kept_work : {E X : Type 0} (plan : LanePlan) (budget n m : ℕ) (keep : Bool) (ps : List Packet) (k : Kept) (done : Result (Unit {0}) E) (l : Lanes) (r : Result WorkedState X) → keep ≡ true
-    → IsKept keep plan.taps ps n k → OnOk done (AreMerged plan.segs (spread_of plan) plan.queues (map packet_of k.packets.items) l.queues.items)
+pub kept_work : {E X : Type 0} (plan : LanePlan) (budget n m : ℕ) (keep : Bool) (ps : List Packet) (k : Prepared) (done : Result (Unit {0}) E) (l : Lanes) (r : Result WorkedState X) → keep ≡ true
+    → IsPrepared keep plan.taps ps n k → OnOk done (AreMerged plan.segs (spread_of plan) plan.queues (map packet_of k.packets.items) l.queues.items)
     → OnOk done (AreWatched plan.snap plan.taps (shown_by plan (map packet_of k.packets.items)) l.taps.items)
     → OnOk done (All IsMerged l.queues.items)
-    → IfOk r (IsOfLanes done l k.kept.items m) → IfOk r (IsKeptWorkOf (options_by plan budget) ps)
+    → IfOk r (IsOfLanes done l k.clones.items m) → IfOk r (IsKeptWorkOf (options_by plan budget) ps)
 kept_work plan budget n m keep ps k done l (Err e) on is merged watched are of = tt
 kept_work plan budget n m keep ps k done l (Ok w) on is merged watched are of =
     let a = ok_of done (AreMerged plan.segs (spread_of plan) plan.queues (map packet_of k.packets.items) l.queues.items) of.0 merged in
@@ -304,15 +304,15 @@ kept_work plan budget n m keep ps k done l (Ok w) on is merged watched are of =
       watched = subst (λ (z : Lanes). AreWatched plan.snap plan.taps (shown_by plan ps) z.taps.items) (sym of.1)
           (subst (λ (z : List Packet). AreWatched plan.snap plan.taps (shown_by plan z) l.taps.items) is.same b);
       is = subst (λ (z : Lanes). All IsMerged z.queues.items) (sym of.1) c;
-      kept = ap (map packet_of_clone) of.2 ∙ is.clones on;
+      clones = ap (map packet_of_clone) of.2 ∙ is.clones on;
       rising = subst (RiseFrom 0) is.same is.rising;
     }
 
 -- so many blocks are left, where n with what was given before were there
-pub blocks_left : {E X : Type 0} (done : Result (Unit {0}) E) (l : Lanes) (kept : List TapClone) (m n before after : ℕ) (r : Result WorkedState X) → m + after ≡ n + before
-    → IfOk r (IsOfLanes done l kept m) → IfOk r (λ w. w.blocks + after ≡ n + before)
-blocks_left done l kept m n before after (Err e) sum of = tt
-blocks_left done l kept m n before after (Ok w) sum of = omega (arith, sum, of.3)
+pub blocks_left : {E X : Type 0} (done : Result (Unit {0}) E) (l : Lanes) (clones : List TapClone) (m n before after : ℕ) (r : Result WorkedState X) → m + after ≡ n + before
+    → IfOk r (IsOfLanes done l clones m) → IfOk r (λ w. w.blocks + after ≡ n + before)
+blocks_left done l clones m n before after (Err e) sum of = tt
+blocks_left done l clones m n before after (Ok w) sum of = omega (arith, sum, of.3)
 
 pub rest_left : {X : Type 0} (m n before after : ℕ) (r : Result X RestState) → m + after ≡ n + before → IfErr r (λ k. k.blocks ≡ m) → IfErr r (λ k. k.blocks + after ≡ n + before)
 rest_left m n before after (Err k) sum is = omega (arith, sum, is)
@@ -332,8 +332,8 @@ weights_back v a b before after (Ok x) sum is = tt
 -- ---- a round that goes home
 
 -- lanes of a round that was worked, beside no packets
-pub out_beside : (shared : Bool) (n : ℕ) (ps : List Held) (lanes : Lanes) (kept : List TapClone) → ps ≡ [] → IsOut shared n [] lanes kept → IsOut shared n ps lanes kept
-out_beside shared n ps lanes kept none out = subst (λ (z : List Held). IsOut shared n z lanes kept) (sym none) out
+pub out_beside : (shared : Bool) (n : ℕ) (ps : List Held) (lanes : Lanes) (clones : List TapClone) → ps ≡ [] → IsOut shared n [] lanes clones → IsOut shared n ps lanes clones
+out_beside shared n ps lanes clones none out = subst (λ (z : List Held). IsOut shared n z lanes clones) (sym none) out
 
 -- the same beside outcomes that hold nothing
 pub round_left : (n : ℕ) (os ps ls ks : Account) → ((t : Tests) (m : ℕ) → (os.held t m ≡ 0) × (os.homes t.blocks m ≡ 0)) → IsRound n (both ps (both ls ks)) → IsRound n (both os (both ps (both ls ks)))

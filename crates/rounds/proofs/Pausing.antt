@@ -175,8 +175,8 @@ stands_begun budget here round ready begun =
     }))
 
 -- its links are the same throughout
-pub stands_link : (start : Reached) (from : Place) (now : Reached) (kept : Option RecHead) (ps : List Held) → Stands start from now kept ps → now.place.link ≡ from.link
-stands_link start from now kept ps s = at_link kept s.at now.place s.stands.is ∙ s.goes.link
+pub stands_link : (start : Reached) (from : Place) (now : Reached) (head : Option RecHead) (ps : List Held) → Stands start from now head ps → now.place.link ≡ from.link
+stands_link start from now head ps s = at_link head s.at now.place s.stands.is ∙ s.goes.link
 
 -- with a header that was taken some bytes are gone
 pub loses_head : (at : Place) (packets : List Packet) (old : Place) (bytes opened left : List ℕ) (head : RecHead) → Passes old at packets bytes opened → TakesHead at opened left head → Loses bytes left
@@ -185,7 +185,7 @@ loses_head at packets old bytes opened left head passes takes =
     (passes.0 ++ take 16 opened, passes.1 ∙ ap (λ (l : List ℕ). passes.0 ++ l) split ∙ sym (append_assoc passes.0 (take 16 opened) left))
 
 -- the bytes that are gone are some
-pub stands_lost : (start : Reached) (from : Place) (now : Reached) (kept : Option RecHead) (ps : List Held) → Stands start from now kept ps → Told start.left now.left Loses
+pub stands_lost : (start : Reached) (from : Place) (now : Reached) (head : Option RecHead) (ps : List Held) → Stands start from now head ps → Told start.left now.left Loses
 stands_lost start from now None ps s =
     Told-then start.left s.before now.left (Passes start.place s.at (map packet_of ps)) (Opens None s.at) Loses
     (λ bytes opened left passes same. (passes.0, subst (λ (l : List ℕ). bytes ≡ passes.0 ++ l) same passes.1)) s.told s.stands.told
@@ -194,10 +194,10 @@ stands_lost start from now (Some head) ps s =
     (λ bytes opened left passes takes. loses_head s.at (map packet_of ps) start.place bytes opened left head passes takes) s.told s.stands.told
 
 -- one record more was read
-pub stands_next : (start : Reached) (from : Place) (now next : Reached) (kept kept' : Option RecHead) (ps qs : List Held) (p : Held) (used blocks : ℕ) → qs ≡ ps ++ p ∷ [] → kept' ≡ None
-    → (s : Stands start from now kept ps) → Told s.before next.left (GivesRecord used blocks s.at next.place [] (Ok p)) → GoesOn s.at next.place → p.number ≡ s.at.number → now.faults ≤ next.faults
-    → Stands start from next kept' qs
-stands_next start from now next kept kept' ps qs p used blocks e none s told goes is later =
+pub stands_next : (start : Reached) (from : Place) (now next : Reached) (head head' : Option RecHead) (ps qs : List Held) (p : Held) (used blocks : ℕ) → qs ≡ ps ++ p ∷ [] → head' ≡ None
+    → (s : Stands start from now head ps) → Told s.before next.left (GivesRecord used blocks s.at next.place [] (Ok p)) → GoesOn s.at next.place → p.number ≡ s.at.number → now.faults ≤ next.faults
+    → Stands start from next head' qs
+stands_next start from now next head head' ps qs p used blocks e none s told goes is later =
     subst (λ (k : Option RecHead). Stands start from next k qs) (sym none) (subst (λ (xs : List Held). Stands start from next None xs) (sym e) (record {
       at = next.place;
       before = next.left;
@@ -216,12 +216,12 @@ stands_next start from now next kept kept' ps qs p used blocks e none s told goe
     }))
 
 -- none was, for this stop
-pub fills_stop : (blocks budget : ℕ) (start : Reached) (from : Place) (now next : Reached) (kept kept' : Option RecHead) (ps : List Held) (used : ℕ) (stop : Stop) (halt : Halt)
+pub fills_stop : (blocks budget : ℕ) (start : Reached) (from : Place) (now next : Reached) (head head' : Option RecHead) (ps : List Held) (used : ℕ) (stop : Stop) (halt : Halt)
     → IsHaltOf stop halt → from.link ≡ Ethernet → used ≤ blocks → used ≡ round_need (map packet_of ps)
-    → (s : Stands start from now kept ps) → Told s.before next.left (GivesRecord used blocks s.at next.place [] (Err stop))
-    → (stop ≡ stops.Lacking → StandsAt kept' s.at next.place s.before next.left) → now.faults ≤ next.faults → (stop ≡ stops.ReadFault → Rose now.faults next.faults)
-    → Fills blocks budget start from next kept' ps halt
-fills_stop blocks budget start from now next kept kept' ps used stop halt is ethernet few need s told still later failed = record {
+    → (s : Stands start from now head ps) → Told s.before next.left (GivesRecord used blocks s.at next.place [] (Err stop))
+    → (stop ≡ stops.Lacking → StandsAt head' s.at next.place s.before next.left) → now.faults ≤ next.faults → (stop ≡ stops.ReadFault → Rose now.faults next.faults)
+    → Fills blocks budget start from next head' ps halt
+fills_stop blocks budget start from now next head head' ps used stop halt is ethernet few need s told still later failed = record {
   given = halt_ended (λ (end : RoundEnd). Told start.left next.left (GivesRound blocks start.place next.place ps end)) stop halt is
       (λ end ends. Told-then start.left s.before next.left (Passes start.place s.at (map packet_of ps)) (GivesRecord used blocks s.at next.place [] (Err stop))
       (GivesRound blocks start.place next.place ps end)
@@ -242,9 +242,9 @@ fills_stop blocks budget start from now next kept kept' ps used stop halt is eth
 }
 
 -- it has as many packets as it may have
-pub fills_full : (blocks budget : ℕ) (start : Reached) (from : Place) (now : Reached) (kept : Option RecHead) (ps : List Held) → kept ≡ None → length ps ≡ budget → Stands start from now kept ps
-    → Fills blocks budget start from now kept ps (Ended ends.Full)
-fills_full blocks budget start from now kept ps none full stands =
+pub fills_full : (blocks budget : ℕ) (start : Reached) (from : Place) (now : Reached) (head : Option RecHead) (ps : List Held) → head ≡ None → length ps ≡ budget → Stands start from now head ps
+    → Fills blocks budget start from now head ps (Ended ends.Full)
+fills_full blocks budget start from now head ps none full stands =
     let s : Stands start from now None ps = subst (λ (k : Option RecHead). Stands start from now k ps) none stands in
     let here = sym s.stands.is.0 in
     record {
@@ -259,11 +259,11 @@ fills_full blocks budget start from now kept ps none full stands =
     }
 
 -- it has this end, and these are its packets
-pub fills_ended : {blocks blocks' budget budget' : ℕ} (start : Reached) (from : Place) (now : Reached) {kept : Option RecHead} (ps qs : List Held) (halt : Halt) (end : RoundEnd) → blocks ≡ blocks' → budget ≡ budget'
-    → halt ≡ Ended end → qs ≡ ps → Fills blocks budget start from now kept ps halt → Fills blocks' budget' start from now kept qs (Ended end)
-fills_ended {blocks = blocks} {blocks' = blocks'} {budget = budget} {budget' = budget'} start from now {kept = kept} ps qs halt end same few is e fills =
-    subst (λ (k : ℕ). Fills k budget' start from now kept qs (Ended end)) same (subst (λ (k : ℕ). Fills blocks k start from now kept qs (Ended end)) few
-    (subst (λ (h : Halt). Fills blocks budget start from now kept qs h) is (subst (λ (xs : List Held). Fills blocks budget start from now kept xs halt) (sym e) fills)))
+pub fills_ended : {blocks blocks' budget budget' : ℕ} (start : Reached) (from : Place) (now : Reached) {head : Option RecHead} (ps qs : List Held) (halt : Halt) (end : RoundEnd) → blocks ≡ blocks' → budget ≡ budget'
+    → halt ≡ Ended end → qs ≡ ps → Fills blocks budget start from now head ps halt → Fills blocks' budget' start from now head qs (Ended end)
+fills_ended {blocks = blocks} {blocks' = blocks'} {budget = budget} {budget' = budget'} start from now {head = head} ps qs halt end same few is e fills =
+    subst (λ (k : ℕ). Fills k budget' start from now head qs (Ended end)) same (subst (λ (k : ℕ). Fills blocks k start from now head qs (Ended end)) few
+    (subst (λ (h : Halt). Fills blocks budget start from now head qs h) is (subst (λ (xs : List Held). Fills blocks budget start from now head xs halt) (sym e) fills)))
 
 -- it lacks blocks where it has no end
 pub lacking_from : (halt : Halt) → ((end : RoundEnd) → halt ≡ Ended end → ⊥) → halt ≡ Lacking

@@ -7,27 +7,27 @@ use Rattle.frags.proofs.Accounts.{soles_home-append}
 use Rattle.frags.specs.RoundAccount.{of_lives}
 use Rattle.rounds.specs.Marks.{all, blocks_but, others, IsMarked, IsNamed}
 use Rattle.rounds.specs.Table.{place_held, place_missing, place_weight, IsOwed, missing, missing_weight, IsOfLife, Receives}
-use Rattle.rounds.specs.declared.mark_table.Returned.{Returned}
-use Rattle.rounds.specs.declared.mark_table.Returned.TheVariants.{Open, Home, Owed}
+use Rattle.rounds.specs.declared.mark_table.MarkState.{MarkState}
+use Rattle.rounds.specs.declared.mark_table.MarkState.TheVariants.{Open, Home, Owed}
 
 -- the places of a table after one was set
-pub missing-set : (ps : List Returned) (k : ℕ) (q d : Returned) → k < length ps → missing (set ps k q) + place_missing (get_or ps k d) ≡ missing ps + place_missing q
+pub missing-set : (ps : List MarkState) (k : ℕ) (q d : MarkState) → k < length ps → missing (set ps k q) + place_missing (get_or ps k d) ≡ missing ps + place_missing q
 missing-set [] k q d lt = absurd (omega arith)
 missing-set (p ∷ ps) zero q d lt = omega arith
 missing-set (p ∷ ps) (suc k) q d lt = let i = missing-set ps k q d (omega arith) in omega arith
 
-pub missing-at : (ps : List Returned) (k : ℕ) (d : Returned) → k < length ps → place_missing (get_or ps k d) ≤ missing ps
+pub missing-at : (ps : List MarkState) (k : ℕ) (d : MarkState) → k < length ps → place_missing (get_or ps k d) ≤ missing ps
 missing-at [] k d lt = absurd (omega arith)
 missing-at (p ∷ ps) zero d lt = omega arith
 missing-at (p ∷ ps) (suc k) d lt = let i = missing-at ps k d (omega arith) in omega arith
 
-pub receives-missing : (p : Returned) (r : ReceiptState) (q : Returned) → Receives p r q → place_missing q ≡ place_missing p
+pub receives-missing : (p : MarkState) (r : ReceiptState) (q : MarkState) → Receives p r q → place_missing q ≡ place_missing p
 receives-missing Open r q h = ap place_missing h.0
 receives-missing Home r q h = ap place_missing h
 receives-missing (Owed x) r q h = ap place_missing h.0
 
 -- the same of what their blocks weigh, each by its mark
-pub missing_weight-set : (w : ℕ → ℕ) (k : ℕ) (ps : List Returned) (i j : ℕ) (q d : Returned) → i < length ps → j ≡ k + i
+pub missing_weight-set : (w : ℕ → ℕ) (k : ℕ) (ps : List MarkState) (i j : ℕ) (q d : MarkState) → i < length ps → j ≡ k + i
     → missing_weight w k (set ps i q) + place_weight (w j) (get_or ps i d) ≡ missing_weight w k ps + place_weight (w j) q
 missing_weight-set w k [] i j q d lt at = absurd (omega (arith, lt))
 missing_weight-set w k (p ∷ ps) zero j q d lt at =
@@ -37,7 +37,7 @@ missing_weight-set w k (p ∷ ps) zero j q d lt at =
     omega (arith, a, b)
 missing_weight-set w k (p ∷ ps) (suc i) j q d lt at = omega (arith, missing_weight-set w (k + 1) ps i j q d (omega (arith, lt)) (omega (arith, at)))
 
-pub receives-weight : (w : ℕ) (p : Returned) (r : ReceiptState) (q : Returned) → Receives p r q → place_weight w q ≡ place_weight w p
+pub receives-weight : (w : ℕ) (p : MarkState) (r : ReceiptState) (q : MarkState) → Receives p r q → place_weight w q ≡ place_weight w p
 receives-weight w Open r q h = ap (place_weight w) h.0
 receives-weight w Home r q h = ap (place_weight w) h
 receives-weight w (Owed x) r q h = ap (place_weight w) h.0
@@ -83,7 +83,7 @@ life_of l k m mark w e p h = same_life l k (grind (arith, e, p, h))
 pub counted_all : (m : ℕ) (l : Life) (w : ℕ) → counted all m l m w ≡ w
 counted_all m l w = grind arith
 
-pub of_life : (l : Life) (p : Returned) (m : ℕ) (r : ReceiptState) → IsOwed m p → r.mark ≡ m → 0 < r.weight
+pub of_life : (l : Life) (p : MarkState) (m : ℕ) (r : ReceiptState) → IsOwed m p → r.mark ≡ m → 0 < r.weight
     → place_held (of_lives (others l)) m p + counted (of_lives (others l)) m r.life r.mark r.weight ≡ 0 → IsOfLife p r
 of_life l Open m r o e w h = tt
 of_life l Home m r o e w h = tt

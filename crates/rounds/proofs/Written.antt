@@ -26,7 +26,7 @@ use Rattle.rounds.specs.declared.round_writer.MergeEnd.TheVariants as ends
 use Rattle.rounds.specs.declared.round_writer.Step.{Step}
 use Rattle.rounds.specs.declared.round_writer.Step.TheVariants as steps
 use Rattle.rounds.specs.Handled.{Ends, Handled, drawn_at}
-use Rattle.rounds.specs.Merged.{Start, Behind, Ended, WroteRound, PutRound, Sunk, Merged}
+use Rattle.rounds.specs.Merged.{Start, Behind, MergingEnded, WroteRound, PutRound, Sunk, Merged}
 use Rattle.rounds.specs.Merging.{ending_of, options_of, is_worked, Fails, WritesLast, Puts, GivesUp, Ahead, EndsBehind, TakesBehind, TakesTo, EndsCaptured}
 use Rattle.rounds.specs.Reading.{GivesRound}
 use Rattle.rounds.specs.Reads.{Spot, ReadRound, Reads, is_full}
@@ -252,7 +252,7 @@ module _ (blocks : ℕ) (state : RoundsState) (file : FileHead) where
 
   -- behind what is gone
   ended_so : (start : Start) (k : ℕ) (first at to : Spot) (h h1 : Option (List ℕ)) (end : MergeEnd) → Behind blocks (options_of state) file start k at h → first.faults ≤ at.faults
-      → Says k at to h h1 end → Ended blocks (options_of state) start first to h1 end
+      → Says k at to h h1 end → MergingEnded blocks (options_of state) start first to h1 end
   ended_so start k first at to h h1 end gone later says = record {
     given = ends_then blocks (options_of state) k start.place at.place to.place start.left at.left to.left start.held h h1 start.taken at.taken to.taken end gone.told says.given;
     captured = captured_then blocks (options_of state) k start.place at.place to.place start.left at.left to.left start.held h h1 start.taken at.taken to.taken end gone.told says.given says.captured;
@@ -280,10 +280,10 @@ module _ (blocks : ℕ) (state : RoundsState) (file : FileHead) where
 
     -- behind k rounds, of which the first was read here
     ran_ended : (start : Start) (k : ℕ) (first at to : Spot) (old new : K) (got more : List RoundRead) (end : MergeEnd) → Behind blocks (options_of state) file start k at (at_sink old).held
-        → first.faults ≤ at.faults → Reads blocks state.budget at (got ++ more) to → Ends Did ends.NoMemory k old new got end → Ended blocks (options_of state) start first to (at_sink new).held end
+        → first.faults ≤ at.faults → Reads blocks state.budget at (got ++ more) to → Ends Did ends.NoMemory k old new got end → MergingEnded blocks (options_of state) start first to (at_sink new).held end
     ran_ended start k first at to old new [] more end gone later reads went =
-        subst (λ (e : MergeEnd). Ended blocks (options_of state) start first to (at_sink new).held e) (sym went.0)
-        (subst (λ (a : K). Ended blocks (options_of state) start first to (at_sink a).held ends.NoMemory) (sym went.1) (ended_so start k first at to (at_sink old).held (at_sink old).held ends.NoMemory gone later (lost_says k at to (at_sink old).held more reads)))
+        subst (λ (e : MergeEnd). MergingEnded blocks (options_of state) start first to (at_sink new).held e) (sym went.0)
+        (subst (λ (a : K). MergingEnded blocks (options_of state) start first to (at_sink a).held ends.NoMemory) (sym went.1) (ended_so start k first at to (at_sink old).held (at_sink old).held ends.NoMemory gone later (lost_says k at to (at_sink old).held more reads)))
     ran_ended start k first at to old new (read ∷ rs) more end gone later reads (inl went) =
         ran_ended start (k + 1) first reads.0 to went.0 new rs more end (goes_behind start k at reads.0 (at_sink old).held (at_sink went.0).held read gone reads.1 went.1.wrote)
         (omega (arith, later, reads.1.later)) reads.3 went.2

@@ -114,7 +114,7 @@ Swaps None new list list' = (new ≡ None) × (list' ≡ list)
 Swaps (Some g) new list list' = (new ≡ Some (record g { list = list })) × (list' ≡ g.list)
 
 -- a round as it is read
-pub record IsRead (round : RoundState) : Type 0 where
+pub record IsReadRound (round : RoundState) : Type 0 where
   pub few : length round.packets ≤ 4096
   pub captured : AllByRecursion IsCaptured (map packet_of round.packets)
   pub numbers : (k : ℕ) × NumberedFrom k round.packets

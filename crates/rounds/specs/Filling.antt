@@ -31,22 +31,22 @@ reached left faults reader = record {
 
 -- A round's packets were read from `start` on, and are counted from `from`. Behind them a record begins `at` a place,
 -- where the source had `before` left: there the reader stands now, or behind that record's header, which is kept.
-pub record Stands (start : Reached) (from : Place) (now : Reached) (kept : Option RecHead) (packets : List Held)
+pub record Stands (start : Reached) (from : Place) (now : Reached) (head : Option RecHead) (packets : List Held)
     : Type 0 where
   pub at : Place
   pub before : Option (List ℕ)
-  pub stands : StandsAt kept at now.place before now.left
+  pub stands : StandsAt head at now.place before now.left
   pub told : Told start.left before (Passes start.place at (map packet_of packets))
   pub goes : PassesRound from at packets (length packets)
   pub numbers : NumberedFrom from.number packets
   pub later : start.faults ≤ now.faults
 
 -- The round was read on: it has an end, which is what the bytes from `start` on say, or stands so once more.
-pub record Fills (blocks budget : ℕ) (start : Reached) (from : Place) (now : Reached) (kept : Option RecHead)
+pub record Fills (blocks budget : ℕ) (start : Reached) (from : Place) (now : Reached) (head : Option RecHead)
     (round : List Held) (halt : Halt) : Type 0 where
   pub given : IfEnded halt (λ end. Told start.left now.left (GivesRound blocks start.place now.place round end))
   pub full : halt ≡ halts.Ended ends.Full → PassesRound from now.place round budget
-  pub waits : halt ≡ halts.Lacking → Stands start from now kept round
+  pub waits : halt ≡ halts.Lacking → Stands start from now head round
   pub numbers : NumberedFrom from.number round
   pub later : start.faults ≤ now.faults
   pub failed : halt ≡ halts.Ended ends.ReadFault → Rose start.faults now.faults

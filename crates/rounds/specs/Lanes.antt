@@ -23,11 +23,11 @@ use Rattle.rounds.specs.RoundsState.{WorkedState}
 -- ---- what it holds
 
 abbrev pub of_work : Lanes → List TapClone → Account
-of_work lanes kept = both (of_lanes lanes) (of_clones kept)
+of_work lanes clones = both (of_lanes lanes) (of_clones clones)
 
 -- at least as many blocks and parts as it holds
 abbrev pub count_of_work : Lanes → List TapClone → ℕ
-count_of_work lanes kept = counts_of_queues lanes.queues.items + blocks_of kept
+count_of_work lanes clones = counts_of_queues lanes.queues.items + blocks_of clones
 
 -- no tap has a clone that it still has to read
 abbrev pub AreSpent : List TapLane → Type 0
@@ -35,7 +35,7 @@ AreSpent lanes = All (λ (l : TapLane). l.clones.items ≡ []) lanes
 
 -- nobody but its packets holds a block of them, and there are no clones
 abbrev pub IsAloneWork : WorkedState → Type 0
-IsAloneWork w = All (λ (l : QueueLane). AreAlone l.packets.items) w.lanes.queues.items × (w.kept ≡ [])
+IsAloneWork w = All (λ (l : QueueLane). AreAlone l.packets.items) w.lanes.queues.items × (w.clones ≡ [])
 
 -- ---- what is written
 
@@ -90,7 +90,7 @@ pub record IsKeptWorkOf (options : Options) (ps : List Packet) (w : WorkedState)
   pub merged : AreMerged options.segs options.spread options.queues ps w.lanes.queues.items
   pub watched : AreWatched options.snap options.taps (map (shown_of options.filter) ps) w.lanes.taps.items
   pub is : All IsMerged w.lanes.queues.items
-  pub kept : map packet_of_clone w.kept ≡ ps
+  pub clones : map packet_of_clone w.clones ≡ ps
   pub rising : RiseFrom 0 ps
 
 -- a round was worked: its records are those of its packets, and each of these is there once where they are kept

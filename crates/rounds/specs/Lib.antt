@@ -3,12 +3,12 @@ pub mod Filling
 pub mod Fresh
 pub mod Handled
 pub mod Held
-pub mod Kept
 pub mod Lanes
 pub mod Marks
 pub mod Merged
 pub mod Merging
 pub mod Out
+pub mod Prepared
 pub mod Reading
 pub mod Reads
 pub mod RoundOf

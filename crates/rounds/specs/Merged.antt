@@ -34,7 +34,7 @@ pub record Behind (blocks : ℕ) (options : Options) (file : FileHead) (start : 
   pub same : at.place.file ≡ file
 
 -- merging ended so, with the source here
-pub record Ended (blocks : ℕ) (options : Options) (start : Start) (from to : Spot) (held : Option (List ℕ))
+pub record MergingEnded (blocks : ℕ) (options : Options) (start : Start) (from to : Spot) (held : Option (List ℕ))
     (end : MergeEnd) : Type 0 where
   pub given : Told start.left to.left (Passes (merging blocks options start.place) start.held held (ending_of end))
   pub captured : Told start.left to.left (HoldsCaptured blocks options.budget start.place end)

@@ -31,7 +31,7 @@ pub record IsHold {A : Type 0} (items : List A) (capacity : ℕ) : Type 0 where
 
 -- The counts of takes, before and after, of a pool of so many blocks: those of a round were taken, or of it those that
 -- it has more, and maybe others that went back. The count stays at 2^64 - 1.
-pub record Takes (made from to before after : ℕ) : Type 0 where
+pub record TakesBlocks (made from to before after : ℕ) : Type 0 where
   pub within : after ≤ made
   pub taken : min (from + (after - before)) (2 ^ 64 - 1) ≤ to
   pub least : (before ≤ after) × (from ≤ to)
@@ -40,14 +40,14 @@ pub record Takes (made from to before after : ℕ) : Type 0 where
 -- A round of so many blocks was read on, and why no more of it is: it has as many packets as it may, or fewer, and the
 -- count of takes rose by its blocks. It lacks blocks only behind the header of a record that needs more than are home,
 -- and with which it doesn't exceed those that were made.
-pub record Grows (made budget : ℕ) (from to home before : ℕ) (packets : List Held) (after : ℕ) (kept : Option RecHead)
+pub record Grows (made budget : ℕ) (from to home before : ℕ) (packets : List Held) (after : ℕ) (head : Option RecHead)
     (place : Place) (halt : Halt) : Type 0 where
   pub size : length packets ≤ budget
   pub fewer : halt ≢ halts.Ended ends.Full → length packets < budget
-  pub takes : Takes made from to before after
+  pub takes : TakesBlocks made from to before after
   pub stands : IfEnded halt (λ end. EndsAt end place)
-  pub lacks : halt ≡ halts.Lacking → (head : RecHead) × (kept ≡ Some head) × (home < need_of head.captured)
-      × (after + need_of head.captured ≤ made) × (to ≡ min (from + (after - before)) (2 ^ 64 - 1))
+  pub lacks : halt ≡ halts.Lacking → (h : RecHead) × (head ≡ Some h) × (home < need_of h.captured)
+      × (after + need_of h.captured ≤ made) × (to ≡ min (from + (after - before)) (2 ^ 64 - 1))
 
 -- of a round that was begun, with room for so many packets
 pub record IsBegun (budget : ℕ) (round : ReadingState) : Type 0 where

@@ -54,7 +54,7 @@ pub record ReadingState : Type 0 where
 -- the lanes, and the clones that were kept
 pub record WorkedState : Type 0 where
   pub lanes : Lanes
-  pub kept : List TapClone
+  pub clones : List TapClone
   pub spares : List SoleState
   pub blocks : ℕ
 

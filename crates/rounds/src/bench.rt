@@ -16,7 +16,7 @@ ghost use Rattle.rounds.specs.Lanes.{worked_bytes, worked_records, IsAloneWork, 
 ghost use Rattle.rounds.specs.RoundOf.{IsBegun};
 ghost use Rattle.rounds.specs.Weights.{weights_of, weights_worked, weights_left};
 
-use crate::mark_table::Returned;
+use crate::mark_table::MarkState;
 use crate::memory::{close_places, open_places, place_spares};
 use crate::round_home::bring_out;
 use crate::round_stages::{Reading, Rest, Round, RoundRead, Worked, make_lists, no_round};
@@ -37,7 +37,7 @@ pub struct Bench {
     /// Where the memory of later rounds comes from.
     pub(crate) alloc: Global,
     // What came back, and where: used as a round ends. There are places for all blocks and for a clone's part of each.
-    places: Vec<Returned>,
+    places: Vec<MarkState>,
     /// What packets, clones and taps give back as a round ends; empty between rounds.
     out: Outcomes,
     // Memory alone.
@@ -305,7 +305,7 @@ impl Bench {
     {
         let Worked {
             lanes,
-            kept,
+            clones,
             spares,
             shared,
             blocks,
@@ -313,7 +313,7 @@ impl Bench {
         let rest = Rest {
             packets: self.take_packets(),
             lanes,
-            kept,
+            clones,
             spares,
             shared,
             blocks,
@@ -335,7 +335,7 @@ impl Bench {
         let rest = Rest {
             packets,
             lanes,
-            kept: Vec::new(self.alloc),
+            clones: Vec::new(self.alloc),
             spares,
             shared: false,
             blocks,
@@ -351,7 +351,7 @@ impl Bench {
         let Rest {
             mut packets,
             mut lanes,
-            kept,
+            clones,
             mut spares,
             shared,
             blocks,
@@ -365,7 +365,7 @@ impl Bench {
             &mut self.out,
             &mut packets,
             &mut lanes,
-            kept,
+            clones,
         );
         home.refill(&mut spares);
         replace(&mut self.packets, packets).discard();

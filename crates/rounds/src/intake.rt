@@ -1,5 +1,5 @@
 //! The side of rounds that reads.
-ghost use Rattle.std.specs.Prelude.{◌≡◌, ◌+◌, ◌-◌, ◌*◌, ◌<◌, ◌≤◌, ◌^◌, [], length, map, min, IfOk, OnOk};
+ghost use Rattle.std.specs.Prelude.{◌≡◌, ◌+◌, ◌-◌, ◌<◌, ◌≤◌, ◌^◌, [], length, map, min, IfOk, OnOk};
 ghost use Rattle.std.specs.Prelude.{ℕ, ⊤};
 ghost use Rattle.std.specs.List.{AllByRecursion};
 ghost use Rattle.block_pool.specs.PoolState.{home, weighed};

@@ -11,7 +11,7 @@ ghost use Rattle.frags.specs.OutcomesState.{IsBare};
 ghost use Rattle.rounds.specs.Table.{Comes, MayCome};
 ghost use Rattle.reading.specs.Home.{Adds};
 
-use crate::mark_table::{Returned, sweep};
+use crate::mark_table::{MarkState, sweep};
 use crate::round_home::{bring_alone, bring_buffer, bring_packets};
 use block_pool::Pool;
 use frags::Outcomes;
@@ -19,7 +19,7 @@ use lanes::{Lanes, QueueLane, TapLane};
 use taps::TapClone;
 
 // What a queue's lane holds.
-fn bring_queue(pool: &mut Pool, places: &mut [Returned], out: &mut Outcomes, lane: &mut QueueLane)
+fn bring_queue(pool: &mut Pool, places: &mut [MarkState], out: &mut Outcomes, lane: &mut QueueLane)
     requires may { MayCome (of_queue lane.old) pool.old places.old }
     requires bare { IsBare out.old }
     requires spare { count_of_queue lane.old ≤ out.old.spare }
@@ -33,7 +33,7 @@ fn bring_queue(pool: &mut Pool, places: &mut [Returned], out: &mut Outcomes, lan
 
 fn bring_queues(
     pool: &mut Pool,
-    places: &mut [Returned],
+    places: &mut [MarkState],
     out: &mut Outcomes,
     lanes: &mut [QueueLane],
 )
@@ -52,7 +52,7 @@ fn bring_queues(
 }
 
 // What a tap's lane holds, once its clones are read.
-fn bring_tap(pool: &mut Pool, places: &mut [Returned], lane: &mut TapLane)
+fn bring_tap(pool: &mut Pool, places: &mut [MarkState], lane: &mut TapLane)
     requires may { MayCome (of_tap lane.old) pool.old places.old }
     requires spent { lane.old.clones.items ≡ [] }
     ensures comes { Comes (of_tap lane.old) nothing pool.old places.old pool.new places.new }
@@ -61,7 +61,7 @@ fn bring_tap(pool: &mut Pool, places: &mut [Returned], lane: &mut TapLane)
     sweep(pool, places, &mut lane.outcomes);
 }
 
-fn bring_taps(pool: &mut Pool, places: &mut [Returned], lanes: &mut [TapLane])
+fn bring_taps(pool: &mut Pool, places: &mut [MarkState], lanes: &mut [TapLane])
     requires may { MayCome (of_taps lanes.old) pool.old places.old }
     requires spent { AreSpent lanes.old }
     ensures comes { Comes (of_taps lanes.old) nothing pool.old places.old pool.new places.new }
@@ -76,7 +76,7 @@ fn bring_taps(pool: &mut Pool, places: &mut [Returned], lanes: &mut [TapLane])
 /// What all lanes hold is given back, and they are idle. The taps have read their clones.
 pub(crate) fn bring_lanes(
     pool: &mut Pool,
-    places: &mut [Returned],
+    places: &mut [MarkState],
     out: &mut Outcomes,
     lanes: &mut Lanes,
 )
@@ -117,21 +117,21 @@ pub(crate) fn bring_queues_alone(pool: &mut Pool, lanes: &mut [QueueLane])
 }
 
 /// Clones that were kept are given back.
-pub(crate) fn bring_kept(
+pub(crate) fn bring_clones(
     pool: &mut Pool,
-    places: &mut [Returned],
+    places: &mut [MarkState],
     out: &mut Outcomes,
-    kept: Vec<TapClone>,
+    clones: Vec<TapClone>,
 )
-    requires may { MayCome (of_clones kept.items) pool.old places.old }
+    requires may { MayCome (of_clones clones.items) pool.old places.old }
     requires bare { IsBare out.old }
-    requires spare { blocks_of kept.items ≤ out.old.spare }
-    ensures comes { Comes (of_clones kept.items) nothing pool.old places.old pool.new places.new }
+    requires spare { blocks_of clones.items ≤ out.old.spare }
+    ensures comes { Comes (of_clones clones.items) nothing pool.old places.old pool.new places.new }
     ensures bare { IsBare out.new }
-    ensures spare { out.old.spare ≤ out.new.spare + blocks_of kept.items }
+    ensures spare { out.old.spare ≤ out.new.spare + blocks_of clones.items }
 {
-    let mut kept = kept;
-    while let Some(clone) = kept.pop() {
+    let mut clones = clones;
+    while let Some(clone) = clones.pop() {
         let TapClone {
             skb,
             sec: _,
@@ -141,5 +141,5 @@ pub(crate) fn bring_kept(
         } = clone;
         bring_buffer(pool, places, out, skb);
     }
-    kept.destroy_empty();
+    clones.destroy_empty();
 }

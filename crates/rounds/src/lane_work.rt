@@ -12,7 +12,7 @@ ghost use Rattle.lanes.specs.Lanes.{weighed_queues};
 ghost use Rattle.block_pool.specs.PoolState.{weighed};
 ghost use Rattle.rounds.specs.Benches.{options_at, GivesSpares, IsLent, LeavesNoSpare, LendsWork};
 ghost use Rattle.reading.specs.Laid.{AreRead, LaidFrom};
-ghost use Rattle.rounds.specs.Kept.{IsKept, IsPrepared, IsDone, IsLeft, IsOfLanes};
+ghost use Rattle.rounds.specs.Prepared.{ArePrepared, IsPrepared, IsWorkDone, IsWorkLeft, IsOfLanes};
 ghost use Rattle.rounds.specs.Lanes.{IsAloneWork, WorksAs};
 ghost use Rattle.rounds.specs.Weights.{weights_of, weights_worked, weights_left};
 
@@ -27,33 +27,33 @@ use std::alloc::AllocError;
 use taps::TapClone;
 
 // A round before the work of its lanes: its packets, and a clone of each where they are kept.
-struct Kept {
+struct Prepared {
     packets: Packets,
-    kept: Vec<TapClone>,
+    clones: Vec<TapClone>,
     spares: Pool,
     shared: bool,
     blocks: u32,
 }
 
 // A clone of each packet, if that is wanted.
-fn keep_if(keep: bool, packets: &mut Packets, kept: &mut Vec<TapClone>) -> Result<(), AllocError>
+fn keep_if(keep: bool, packets: &mut Packets, clones: &mut Vec<TapClone>) -> Result<(), AllocError>
     requires held { AreHeld packets.old.items }
     requires shared { AreShared packets.old.items }
     requires whole { WeighAtLeast full_weight packets.old.items }
-    requires none { kept.old.items ≡ [] }
+    requires none { clones.old.items ≡ [] }
     ensures after { AreAfter 1 packets.old.items packets.new.items }
     ensures kept { Keeps (of_packets packets.old.items)
-        (both (of_packets packets.new.items) (of_clones kept.new.items)) }
+        (both (of_packets packets.new.items) (of_clones clones.new.items)) }
     ensures blocks { KeepsBlocks (of_packets packets.old.items)
-        (both (of_packets packets.new.items) (of_clones kept.new.items)) }
-    ensures fewer { blocks_of kept.new.items ≤ counts_of packets.old.items }
-    ensures all { OnOk result (keep ≡ true → map packet_of_clone kept.new.items ≡ map packet_of packets.old.items) }
-    ensures unkept { keep ≡ false → (kept.new.items ≡ []) × (packets.new.items ≡ packets.old.items) }
+        (both (of_packets packets.new.items) (of_clones clones.new.items)) }
+    ensures fewer { blocks_of clones.new.items ≤ counts_of packets.old.items }
+    ensures all { OnOk result (keep ≡ true → map packet_of_clone clones.new.items ≡ map packet_of packets.old.items) }
+    ensures unkept { keep ≡ false → (clones.new.items ≡ []) × (packets.new.items ≡ packets.old.items) }
 {
     if !keep {
         return Ok(());
     }
-    keep_packets(packets, kept)
+    keep_packets(packets, clones)
 }
 
 // The heads of packets are shared where others are to hold blocks of them. Else nobody but the packets holds a block.
@@ -61,21 +61,21 @@ fn share_if(
     shared: bool,
     keep: bool,
     packets: &mut Packets,
-    kept: &mut Vec<TapClone>,
+    clones: &mut Vec<TapClone>,
 ) -> Result<(), AllocError>
     requires laid { LaidFrom 0 packets.old.items }
     requires read { AreRead packets.old.items }
     requires captured { AllByRecursion IsCaptured (map packet_of packets.old.items) }
     requires wanted { keep ≡ true → shared ≡ true }
-    requires none { kept.old.items ≡ [] }
-    ensures prepared { IsPrepared shared packets.old.items packets.new.items kept.new.items }
-    ensures all { OnOk result (keep ≡ true → map packet_of_clone kept.new.items ≡ map packet_of packets.old.items) }
+    requires none { clones.old.items ≡ [] }
+    ensures prepared { ArePrepared shared packets.old.items packets.new.items clones.new.items }
+    ensures all { OnOk result (keep ≡ true → map packet_of_clone clones.new.items ≡ map packet_of packets.old.items) }
 {
     if !shared {
         return Ok(());
     }
     packets.share_heads();
-    keep_if(keep, packets, kept)
+    keep_if(keep, packets, clones)
 }
 
 impl Bench {
@@ -88,9 +88,9 @@ impl Bench {
     }
 
     // Heads are shared and a clone of each packet is kept, if that is wanted.
-    fn keep_round<W: Works>(&mut self, works: &W, round: Round) -> Result<Kept, Rest>
+    fn prepare<W: Works>(&mut self, works: &W, round: Round) -> Result<Prepared, Rest>
         requires few { round.blocks ≤ self.old.blocks }
-        ensures kept { IfOk result (λ k. IsKept self.old.keep self.old.plan.taps (map packet_of round.packets)
+        ensures prepared { IfOk result (λ k. IsPrepared self.old.keep self.old.plan.taps (map packet_of round.packets)
             round.blocks k) }
         ensures named { IfOk result (λ k. (h : ℕ → ℕ) → weighed_slots h k.packets.items + weighed h k.spares.blocks
             ≡ weights_of round h) }
@@ -105,11 +105,11 @@ impl Bench {
             blocks,
         } = round;
         let shared = self.is_shared(works, &packets);
-        let mut kept = Vec::new(self.alloc);
-        match share_if(shared, self.keep, &mut packets, &mut kept) {
-            Ok(()) => Ok(Kept {
+        let mut clones = Vec::new(self.alloc);
+        match share_if(shared, self.keep, &mut packets, &mut clones) {
+            Ok(()) => Ok(Prepared {
                 packets,
-                kept,
+                clones,
                 spares,
                 shared,
                 blocks,
@@ -117,7 +117,7 @@ impl Bench {
             Err(_) => Err(Rest {
                 packets,
                 lanes: self.take_lanes(),
-                kept,
+                clones,
                 spares,
                 shared,
                 blocks,
@@ -128,33 +128,35 @@ impl Bench {
     // What the lanes came to.
     fn settle(
         &mut self,
-        kept: Kept,
+        prepared: Prepared,
         lanes: Lanes,
         done: Result<(), AllocError>,
     ) -> Result<Worked, Rest>
-        requires lanes { MatchResult done (λ _. IsDone kept lanes) (λ _. IsLeft kept lanes) }
-        ensures worked { IfOk result (IsOfLanes done lanes kept.kept.items kept.blocks) }
+        requires lanes { MatchResult done (λ _. IsWorkDone prepared lanes) (λ _. IsWorkLeft prepared lanes) }
+        ensures worked { IfOk result (IsOfLanes done lanes prepared.clones.items prepared.blocks) }
         ensures named { IfOk result (λ worked. (h : ℕ → ℕ) → weights_worked worked h
-            ≡ weighed_slots h kept.packets.items + weighed_queues h lanes.queues.items + weighed h kept.spares.blocks) }
-        ensures spares { IfOk result (λ worked. IsOk done × (worked.spares ≡ kept.spares.blocks)) }
-        ensures rest { IfErr result (λ rest. rest.blocks ≡ kept.blocks) }
+            ≡ weighed_slots h prepared.packets.items + weighed_queues h lanes.queues.items
+            + weighed h prepared.spares.blocks) }
+        ensures spares { IfOk result (λ worked. IsOk done × (worked.spares ≡ prepared.spares.blocks)) }
+        ensures rest { IfErr result (λ rest. rest.blocks ≡ prepared.blocks) }
         ensures named_back { IfErr result (λ rest. (h : ℕ → ℕ) → weights_left rest h
-            ≡ weighed_slots h kept.packets.items + weighed_queues h lanes.queues.items + weighed h kept.spares.blocks) }
+            ≡ weighed_slots h prepared.packets.items + weighed_queues h lanes.queues.items
+            + weighed h prepared.spares.blocks) }
         ensures same { self.new ≡ self.old }
     {
-        let Kept {
+        let Prepared {
             packets,
-            kept,
+            clones,
             spares,
             shared,
             blocks,
-        } = kept;
+        } = prepared;
         match done {
             Ok(()) => {
                 replace(&mut self.packets, packets).discard();
                 Ok(Worked {
                     lanes,
-                    kept,
+                    clones,
                     spares,
                     shared,
                     blocks,
@@ -163,7 +165,7 @@ impl Bench {
             Err(_) => Err(Rest {
                 packets,
                 lanes,
-                kept,
+                clones,
                 spares,
                 shared,
                 blocks,
@@ -190,21 +192,21 @@ impl Bench {
             → IfOk result (λ _. GivesSpares (length round.spares) giver.old giver.new) }
         ensures same { self.new ≡ self.old }
     {
-        let mut kept = self.keep_round(works, round)?;
+        let mut prepared = self.prepare(works, round)?;
         let mut lanes = self.take_lanes();
-        let before = kept.spares.home();
-        swap_list(giver, &mut kept.spares);
+        let before = prepared.spares.home();
+        swap_list(giver, &mut prepared.spares);
         let done = work_packets(
             works,
             self.alloc,
-            &mut kept.packets,
+            &mut prepared.packets,
             &self.plan,
-            kept.shared,
+            prepared.shared,
             &mut lanes,
             giver,
         );
-        swap_list(giver, &mut kept.spares);
-        kept.blocks -= before - kept.spares.home();
-        self.settle(kept, lanes, done)
+        swap_list(giver, &mut prepared.spares);
+        prepared.blocks -= before - prepared.spares.home();
+        self.settle(prepared, lanes, done)
     }
 }

@@ -30,7 +30,7 @@
 //!   what is shown of the packets as they were read, whoever works the lanes and whatever the order in which they run.
 //!   `checked`: where clones are kept, all that a comparison of the runs with the packets wants to know. `merged`: each
 //!   packet of a queue stands in a run, once.
-//! - `lanes`, `kept` of [`Worked`]: whoever compares a round with its packets sees its lanes and the clones that were
+//! - `lanes`, `clones` of [`Worked`]: whoever compares a round with its packets sees its lanes and the clones that were
 //!   kept (`checking` does, above the engine); and `plan`, `lawful` of `Rounds::plan`: by which plan it was worked.
 //! - `ok`, `err` of `write_round`: byte for byte what is written of a round that was worked.
 //! - `home`: how many blocks are home after each call, as an equation; after `drop_round` and `end_round`, and where

@@ -5,7 +5,7 @@ ghost use Rattle.frags.specs.Account.{both, of_sole, of_receipt, of_outcomes};
 ghost use Rattle.frags.specs.RoundAccount.{Settles};
 ghost use Rattle.rounds.specs.Marks.{IsMarked, IsNamed, nothing};
 ghost use Rattle.frags.specs.OutcomesState.{IsBare};
-ghost use Rattle.rounds.specs.Table.{place_at, place_missing, of_places, AreOwed, AllHome, AllOpen, missing, IsOfLife};
+ghost use Rattle.rounds.specs.Table.{place_at, place_missing, of_places, AreOwed, AreHome, AllOpen, missing, IsOfLife};
 ghost use Rattle.rounds.specs.Table.{Receives, MayCome, Comes, missing_weight, place_weight, weighed_at_end};
 
 use block_pool::Pool;
@@ -14,7 +14,7 @@ use frags::Outcomes;
 use raw_block::{Receipt, Sole};
 
 /// What came back of a block.
-pub(crate) enum Returned {
+pub(crate) enum MarkState {
     /// Nothing.
     Open,
     /// Its Sole, which went home.
@@ -25,46 +25,46 @@ pub(crate) enum Returned {
 
 // A Sole goes home. Where its block is there already it is dropped: the account doesn't exclude this, and nothing lacks
 // it.
-fn bring(pool: &mut Pool, place: &mut Returned, sole: Sole)
+fn bring(pool: &mut Pool, place: &mut MarkState, sole: Sole)
     requires room { home pool.old + place_missing place.old ≤ pool.old.made }
-    ensures place { place.new ≡ Returned.Home }
+    ensures place { place.new ≡ MarkState.Home }
     ensures home { home pool.new ≡ home pool.old + place_missing place.old }
     ensures named { (h : ℕ → ℕ) → weighed h pool.new.blocks ≡ weighed h pool.old.blocks
         + place_weight (h sole.block) place.old }
     ensures made { (pool.new.made ≡ pool.old.made) × (pool.new.taken ≡ pool.old.taken) }
 {
-    match replace(place, Returned::Home) {
-        Returned::Open => pool.put(sole),
-        Returned::Owed(receipt) => {
+    match replace(place, MarkState::Home) {
+        MarkState::Open => pool.put(sole),
+        MarkState::Owed(receipt) => {
             receipt.close();
             pool.put(sole);
         }
-        Returned::Home => {}
+        MarkState::Home => {}
     }
 }
 
 // What stands at a place once a receipt came back.
-fn received(place: Returned, receipt: Receipt) -> (Returned, ())
+fn received(place: MarkState, receipt: Receipt) -> (MarkState, ())
     requires life { IsOfLife place receipt }
     ensures receives { Receives place receipt result.0 }
 {
     let _ = receipt.weight();
     let next = match place {
-        Returned::Open => Returned::Owed(receipt),
-        Returned::Home => {
+        MarkState::Open => MarkState::Owed(receipt),
+        MarkState::Home => {
             receipt.close();
-            Returned::Home
+            MarkState::Home
         }
-        Returned::Owed(mut owed) => {
+        MarkState::Owed(mut owed) => {
             owed.add(receipt);
-            Returned::Owed(owed)
+            MarkState::Owed(owed)
         }
     };
     (next, ())
 }
 
 // A receipt came back.
-fn receive(place: &mut Returned, receipt: Receipt)
+fn receive(place: &mut MarkState, receipt: Receipt)
     requires life { IsOfLife place.old receipt }
     ensures receives { Receives place.old receipt place.new }
 {
@@ -72,7 +72,7 @@ fn receive(place: &mut Returned, receipt: Receipt)
 }
 
 // A Sole goes home, by its mark. One of a mark that the table doesn't have is dropped.
-fn bring_one(pool: &mut Pool, places: &mut [Returned], sole: Sole)
+fn bring_one(pool: &mut Pool, places: &mut [MarkState], sole: Sole)
     requires room { home pool.old + missing places.old ≤ pool.old.made }
     ensures settles { Settles (length places.old) (both (of_places places.old) (of_sole sole)) (of_places places.new) }
     ensures count { home pool.new + missing places.new ≡ home pool.old + missing places.old }
@@ -89,7 +89,7 @@ fn bring_one(pool: &mut Pool, places: &mut [Returned], sole: Sole)
 }
 
 // A receipt came back, by its mark.
-fn receive_one(places: &mut [Returned], receipt: Receipt)
+fn receive_one(places: &mut [MarkState], receipt: Receipt)
     requires range { receipt.mark < length places.old }
     requires life { IsOfLife (place_at places.old receipt.mark) receipt }
     requires owed { AreOwed places.old }
@@ -105,7 +105,7 @@ fn receive_one(places: &mut [Returned], receipt: Receipt)
 }
 
 // The Soles of what was given back go home.
-fn sweep_soles(pool: &mut Pool, places: &mut [Returned], out: &mut Outcomes)
+fn sweep_soles(pool: &mut Pool, places: &mut [MarkState], out: &mut Outcomes)
     requires room { home pool.old + missing places.old ≤ pool.old.made }
     ensures settles { Settles (length places.old) (both (of_places places.old) (of_outcomes out.old))
         (both (of_places places.new) (of_outcomes out.new)) }
@@ -125,7 +125,7 @@ fn sweep_soles(pool: &mut Pool, places: &mut [Returned], out: &mut Outcomes)
 }
 
 // The receipts of what was given back stand at their places, or are closed.
-fn sweep_receipts(places: &mut [Returned], out: &mut Outcomes)
+fn sweep_receipts(places: &mut [MarkState], out: &mut Outcomes)
     requires marked { IsMarked (length places.old) (both (of_places places.old) (of_outcomes out.old)) }
     requires owed { AreOwed places.old }
     ensures settles { Settles (length places.old) (both (of_places places.old) (of_outcomes out.old))
@@ -145,7 +145,7 @@ fn sweep_receipts(places: &mut [Returned], out: &mut Outcomes)
 }
 
 /// What was given back goes home, or stands at its places.
-pub(crate) fn sweep(pool: &mut Pool, places: &mut [Returned], out: &mut Outcomes)
+pub(crate) fn sweep(pool: &mut Pool, places: &mut [MarkState], out: &mut Outcomes)
     requires may { MayCome (of_outcomes out.old) pool.old places.old }
     ensures comes { Comes (of_outcomes out.old) nothing pool.old places.old pool.new places.new }
     ensures bare { IsBare out.new }
@@ -156,14 +156,14 @@ pub(crate) fn sweep(pool: &mut Pool, places: &mut [Returned], out: &mut Outcomes
 }
 
 /// The places of a table whose blocks are all home are open again.
-pub(crate) fn reopen(places: &mut [Returned])
-    requires home { AllHome places.old }
+pub(crate) fn reopen(places: &mut [MarkState])
+    requires home { AreHome places.old }
     ensures open { AllOpen places.new }
     ensures size { length places.new ≡ length places.old }
 {
     for i in 0..places.len() {
-        match replace(&mut places[i], Returned::Open) {
-            Returned::Home => {}
+        match replace(&mut places[i], MarkState::Open) {
+            MarkState::Home => {}
             _ => unreachable!(),
         }
     }

@@ -3,30 +3,30 @@ ghost use Rattle.std.specs.Prelude.{◌≡◌, ◌*◌, ◌≤◌, length, IfOk,
 ghost use Rattle.block_pool.specs.PoolState.{home};
 ghost use Rattle.rounds.specs.Table.{AllOpen};
 
-use crate::mark_table::Returned;
+use crate::mark_table::MarkState;
 use block_pool::Pool;
 use std::alloc::{AllocError, Global};
 
 /// A table with an open place for each of `n` marks.
-pub(crate) fn open_places(alloc: Global, n: u32) -> Result<Vec<Returned>, AllocError>
+pub(crate) fn open_places(alloc: Global, n: u32) -> Result<Vec<MarkState>, AllocError>
     ensures open { IfOk result (λ places. AllOpen places.items) }
     ensures size { IfOk result (λ places. length places.items ≡ n) }
 {
     let mut places = Vec::with_capacity(alloc, n as usize)?;
     for _ in 0..n {
-        places.push_reserved(Returned::Open);
+        places.push_reserved(MarkState::Open);
     }
     Ok(places)
 }
 
 /// A table whose places are all open is given up.
-pub(crate) fn close_places(places: Vec<Returned>)
+pub(crate) fn close_places(places: Vec<MarkState>)
     requires open { AllOpen places.items }
 {
     let mut places = places;
     while let Some(place) = places.pop() {
         match place {
-            Returned::Open => {}
+            MarkState::Open => {}
             _ => unreachable!(),
         }
     }

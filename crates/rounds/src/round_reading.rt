@@ -29,14 +29,14 @@ pub(crate) fn read_more<S: Source, H: Supply>(
     hold: &mut VecDeque<Sole>,
     reader: &mut CaptureReader<'_, S>,
     more: &mut H,
-    kept: &mut Option<RecHead>,
+    head: &mut Option<RecHead>,
     budget: usize,
     packets: &mut Packets,
     spares: &mut Pool,
     used: u32,
 ) -> (u32, Halt)
     requires stands { (start : Reached) × ((from : Place)
-        × Stands start from (reached S.left S.faults reader.old) kept.old packets.old.items) }
+        × Stands start from (reached S.left S.faults reader.old) head.old packets.old.items) }
     requires link { (place_of reader.old).link ≡ Ethernet }
     requires hold { IsHold hold.old.items (deque_capacity hold.old) }
     requires made { pool.old.made ≤ 65536 }
@@ -47,11 +47,11 @@ pub(crate) fn read_more<S: Source, H: Supply>(
     ensures same_source { SameLoan reader.old reader.new }
     ensures tells { Told (S.left (source_of reader.old)) (S.left (source_of reader.new)) (λ _ _. ⊤) }
     ensures fills { (start : Reached) → (from : Place)
-        → Stands start from (reached S.left S.faults reader.old) kept.old packets.old.items
-        → Fills pool.old.made budget start from (reached S.left S.faults reader.new) kept.new packets.new.items
+        → Stands start from (reached S.left S.faults reader.old) head.old packets.old.items
+        → Fills pool.old.made budget start from (reached S.left S.faults reader.new) head.new packets.new.items
         result.1 }
     ensures grows { Grows pool.old.made budget pool.old.taken pool.new.taken (home pool.new) used packets.new.items
-        result.0 kept.new (place_of reader.new) result.1 }
+        result.0 head.new (place_of reader.new) result.1 }
     ensures refused { result.1 ≡ Halt.Lacking
         → min (H.refusals more.old + 1) (2 ^ 64 - 1) ≤ H.refusals more.new }
     ensures round { IsRoundOf packets.new.items (home spares.new) result.0 }
@@ -74,7 +74,7 @@ pub(crate) fn read_more<S: Source, H: Supply>(
             spares,
             reader,
             more,
-            kept,
+            head,
             &mut [],
             used,
             mark,

@@ -89,7 +89,7 @@ pub struct Worked {
     /// The packets and their runs queue by queue, and what each tap read.
     pub(crate) lanes: Lanes,
     // A clone of each packet, where they are kept.
-    pub(crate) kept: Vec<TapClone>,
+    pub(crate) clones: Vec<TapClone>,
     /// Those that weren't given to others. Nothing reads them.
     pub(crate) spares: Pool,
     // Whether others may hold blocks of it: taps, or who keeps clones.
@@ -107,10 +107,15 @@ impl Model for Worked {
 
     ghost Value = { WorkedState };
 
-    ghost view = { λ w. record { lanes = w.lanes; kept = w.kept.items; spares = w.spares.blocks; blocks = w.blocks } };
+    ghost view = { λ w. record {
+      lanes = w.lanes;
+      clones = w.clones.items;
+      spares = w.spares.blocks;
+      blocks = w.blocks;
+    } };
 
     ghost invariant = { λ w. (home w.spares ≤ w.blocks)
-        × IsOut w.shared (w.blocks - home w.spares) [] w.lanes w.kept.items × IsSmallWork w.lanes };
+        × IsOut w.shared (w.blocks - home w.spares) [] w.lanes w.clones.items × IsSmallWork w.lanes };
 }
 
 /// What is left of a round, at whichever point it ends: packets that are in no lane, what the lanes hold, clones that
@@ -118,7 +123,7 @@ impl Model for Worked {
 pub struct Rest {
     pub(crate) packets: Packets,
     pub(crate) lanes: Lanes,
-    pub(crate) kept: Vec<TapClone>,
+    pub(crate) clones: Vec<TapClone>,
     pub(crate) spares: Pool,
     /// Whether others may hold blocks of it: taps, or who keeps clones.
     pub(crate) shared: bool,
@@ -142,7 +147,7 @@ impl Model for Rest {
     } };
 
     ghost invariant = { λ r. (home r.spares ≤ r.blocks)
-        × IsOut r.shared (r.blocks - home r.spares) r.packets.items r.lanes r.kept.items };
+        × IsOut r.shared (r.blocks - home r.spares) r.packets.items r.lanes r.clones.items };
 }
 
 /// Why a round has no more records.

@@ -16,7 +16,7 @@ ghost use Rattle.offload_model.specs.Written.{round_records};
 ghost use Rattle.gro.specs.Slots.{packet_of};
 ghost use Rattle.lanes.specs.Lanes.{IsMerged};
 ghost use Rattle.lanes.specs.Work.{IsPlan};
-ghost use Rattle.rounds.specs.Benches.{IsRead};
+ghost use Rattle.rounds.specs.Benches.{IsReadRound};
 ghost use Rattle.rounds.specs.Fresh.{NumberedFrom};
 ghost use Rattle.rounds.specs.Lanes.{worked_bytes, worked_records, IsKeptWorkOf};
 ghost use Rattle.rounds.specs.Merging.{options_of};
@@ -70,7 +70,7 @@ impl Model for Rounds {
 
 impl Rounds {
     /// Rounds of up to `budget` records over `blocks` blocks, whose work is divided by `plan`. Where `keep`, a clone of
-    /// each packet stands beside the work of its round, for [`Worked::kept`]. All memory for blocks, for what comes
+    /// each packet stands beside the work of its round, for [`Worked::clones`]. All memory for blocks, for what comes
     /// back of them and for the packets of a round is taken here. Lanes take theirs in the first round, and more only
     /// where a later one has more for them; clones that are kept take more in each round.
     pub fn make(
@@ -303,7 +303,7 @@ impl Rounds {
         into: &mut T,
     ) -> Option<E>
         requires out { length self.old.stock + read.round.blocks ≤ self.old.blocks }
-        requires read { IsRead read.round }
+        requires read { IsReadRound read.round }
         requires ready { (n : ℕ) × (n ≤ 2 ^ 32) × H.ready (options_of self.old) self.old.keep n into.old }
         ensures did { H.did handler.now (options_of self.old) into.old into.new read number result }
         ensures full { result ≡ None → read.end ≡ RoundEnd.Full }

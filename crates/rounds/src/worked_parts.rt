@@ -14,9 +14,9 @@ impl Worked {
     }
 
     /// The clones that were kept of its packets, in their order.
-    pub fn kept(&self) -> &[TapClone]
-        ensures kept { result.now ≡ self.now.kept }
+    pub fn clones(&self) -> &[TapClone]
+        ensures clones { result.now ≡ self.now.clones }
     {
-        &self.kept
+        &self.clones
     }
 }

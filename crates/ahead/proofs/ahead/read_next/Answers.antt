@@ -1,7 +1,7 @@
 use Rattle.std.proofs.Common.{ap, arith, length, subst, sym}
 use Rattle.block_pool.specs.PoolState.{weighed}
 use Rattle.rounds.specs.Filling.{reached}
-use Rattle.rounds.specs.RoundOf.{brought_by, Takes}
+use Rattle.rounds.specs.RoundOf.{brought_by, TakesBlocks}
 use Rattle.rounds.specs.RoundsState.{RoundState}
 use Rattle.rounds.proofs.Pausing.{stands_begun}
 use Rattle.ahead.proofs.Beside.{ahead_round, came_ahead, fills_ahead, lacks_ahead, refused_ahead, unread_ahead}
@@ -50,5 +50,5 @@ pub returns-clause-takes : goal.returns-clause-takes
 returns-clause-takes g c =
     let r = c.read-halt in
     let i = c.args.intake.now in
-    subst (λ (x : RoundState). Takes i.blocks i.taken r.new.self.taken 0 x.blocks) (sym (ahead_round r.new.round r.result c.of.result c.of.ensures.is))
-    (subst (λ n. Takes i.blocks i.taken r.new.self.taken n r.new.round.round.blocks) c.in-Ok.ensures.begun.empty r.ensures.grows.takes)
+    subst (λ (x : RoundState). TakesBlocks i.blocks i.taken r.new.self.taken 0 x.blocks) (sym (ahead_round r.new.round r.result c.of.result c.of.ensures.is))
+    (subst (λ n. TakesBlocks i.blocks i.taken r.new.self.taken n r.new.round.round.blocks) c.in-Ok.ensures.begun.empty r.ensures.grows.takes)

@@ -24,16 +24,16 @@ check_lanes-requires-clause-short c = subst (λ (l : Lanes). AreShortTaps l.taps
 pub returns : goal.returns
 returns c =
     let lanes = c.lanes-lanes.result.now in
-    let kept = c.kept.result.now in
+    let kept = c.clones.result.now in
     let w = c.args.worked.now in
     let r = c.check_lanes.result in
     record {
-      compared = subst (λ (l : Lanes). IfOk r (λ (t : Counts). t ≡ compared_lanes l (map packet_of w.kept))) c.lanes-lanes.ensures.lanes
-          (subst (λ (k : List TapClone). IfOk r (λ (t : Counts). t ≡ compared_lanes lanes (map packet_of k))) c.kept.ensures.kept c.check_lanes.ensures.compared);
+      compared = subst (λ (l : Lanes). IfOk r (λ (t : Counts). t ≡ compared_lanes l (map packet_of w.clones))) c.lanes-lanes.ensures.lanes
+          (subst (λ (k : List TapClone). IfOk r (λ (t : Counts). t ≡ compared_lanes lanes (map packet_of k))) c.clones.ensures.clones c.check_lanes.ensures.compared);
       totals = λ budget ps own.
           let o = options_by c.args.plan.now budget in
-          let is = are_lent o ps w lanes kept c.lanes-lanes.ensures.lanes c.kept.ensures.kept own in
-          let captured = subst (λ (k : List TapClone). AllByRecursion IsCaptured (map packet_of k)) (sym c.kept.ensures.kept) c.requires.worked.captured in
+          let is = are_lent o ps w lanes kept c.lanes-lanes.ensures.lanes c.clones.ensures.clones own in
+          let captured = subst (λ (k : List TapClone). AllByRecursion IsCaptured (map packet_of k)) (sym c.clones.ensures.clones) c.requires.worked.captured in
           subst (λ (z : List Packet). IfOk r (λ (t : Counts). t ≡ round_totals o z)) is.same
           (c.check_lanes.ensures.totals o (are_captured 0 (map packet_of kept) captured is.rising) (λ key. spread_below c.args.plan.now key c.requires.plan) (sym is.queues) (sym is.taps) is.merged
           is.watched);

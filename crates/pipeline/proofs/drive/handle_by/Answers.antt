@@ -1,7 +1,7 @@
 use Rattle.std.proofs.Common.{◌∙◌, sym, arith}
 use Rattle.rounds.specs.Merging.{options_of}
 use Rattle.rounds.specs.Reads.{reader_at, ReadRound}
-use Rattle.pipeline.specs.Handled.{IsOut}
+use Rattle.pipeline.specs.Handled.{IsFirstOut}
 use Rattle.rounds.proofs.Going.{ready_as}
 use Rattle.pipeline.proofs.Together.{all_handled}
 use Rattle.pipeline.proofs.drive.handle_by.Given as given
@@ -28,7 +28,7 @@ first_read g c =
     }
 
 first_out : (g : given.Over) (c : After-read_round-read g)
-    → IsOut (g.H.RoundHandler.ready (options_of c.read_round-read.new.self) c.read_round-read.new.self.keep) c.read_round-read.new.self c.read_round-read.result c.read_round-read.new.reader.place c.args.into.now
+    → IsFirstOut (g.H.RoundHandler.ready (options_of c.read_round-read.new.self) c.read_round-read.new.self.keep) c.read_round-read.new.self c.read_round-read.result c.read_round-read.new.reader.place c.args.into.now
 first_out g c =
     let r = c.read_round-read.ensures in
     let first = c.args.rounds.now in

@@ -1,7 +1,7 @@
 use Rattle.std.proofs.Common.{Bool, subst, sym}
 use Rattle.gro.proofs.Lying.{lent_held, lent_shared, lent_weigh}
 use Rattle.reading.proofs.Laying.{laid_all}
-use Rattle.rounds.specs.Kept.{IsPrepared}
+use Rattle.rounds.specs.Prepared.{ArePrepared}
 use Rattle.rounds.proofs.Keeping.{are_held, prepared_alone, prepared_shared}
 use Rattle.rounds.proofs.lane_work.share_if.Goals as goal
 
@@ -21,12 +21,12 @@ keep_if-requires-clause-whole c =
 pub returns-then-not-shared-clause-prepared : goal.returns-then-not-shared-clause-prepared
 returns-then-not-shared-clause-prepared c =
     let ps = c.args.packets.now.items in
-    let kept = c.args.kept.now.items in
-    subst (λ (z : Bool). IsPrepared z ps ps kept) (sym c.if-not-shared.true) (prepared_alone ps kept c.requires.laid c.requires.read c.requires.captured c.requires.none)
+    let clones = c.args.clones.now.items in
+    subst (λ (z : Bool). ArePrepared z ps ps clones) (sym c.if-not-shared.true) (prepared_alone ps clones c.requires.laid c.requires.read c.requires.captured c.requires.none)
 
 pub returns-clause-prepared : goal.returns-clause-prepared
 returns-clause-prepared c =
     let ps = c.args.packets.now.items in
     let k = c.keep_if in
-    subst (λ (z : Bool). IsPrepared z ps k.new.packets.items k.new.kept.items) (sym c.if-not-shared.false)
-    (prepared_shared ps c.share_heads.new.self.items k.new.packets.items k.new.kept.items c.requires.laid c.share_heads.ensures.lent k.ensures.after k.ensures.kept k.ensures.blocks k.ensures.fewer)
+    subst (λ (z : Bool). ArePrepared z ps k.new.packets.items k.new.clones.items) (sym c.if-not-shared.false)
+    (prepared_shared ps c.share_heads.new.self.items k.new.packets.items k.new.clones.items c.requires.laid c.share_heads.ensures.lent k.ensures.after k.ensures.kept k.ensures.blocks k.ensures.fewer)

@@ -1,6 +1,6 @@
 use Rattle.std.proofs.Common.{◌≡◌, ◌<◌, ◌≤◌, ℕ, length}
 use Rattle.rounds.specs.Table.{place_at}
-use Rattle.rounds.specs.declared.mark_table.Returned.TheVariants.{Open, Home}
+use Rattle.rounds.specs.declared.mark_table.MarkState.TheVariants.{Open, Home}
 use Rattle.rounds.proofs.mark_table.reopen.Given as goal
 
 abbrev pub invariant-loop-i : goal.invariant-loop-i

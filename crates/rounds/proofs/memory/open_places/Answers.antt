@@ -1,10 +1,10 @@
 use Rattle.std.proofs.Common.{◌+◌, ◌≤◌, ◌++◌, ℕ, zero, suc, List, [], ◌∷◌, length, length-append, refl, sym, ap, ◌∙◌, subst}
 use Rattle.rounds.specs.Table.{AllOpen}
-use Rattle.rounds.specs.declared.mark_table.Returned.{Returned}
-use Rattle.rounds.specs.declared.mark_table.Returned.TheVariants.{Open}
+use Rattle.rounds.specs.declared.mark_table.MarkState.{MarkState}
+use Rattle.rounds.specs.declared.mark_table.MarkState.TheVariants.{Open}
 use Rattle.rounds.proofs.memory.open_places.Goals as goal
 
-open_last : (xs : List Returned) → AllOpen xs → AllOpen (xs ++ Open ∷ [])
+open_last : (xs : List MarkState) → AllOpen xs → AllOpen (xs ++ Open ∷ [])
 open_last [] h zero = refl
 open_last [] h (suc m) = refl
 open_last (x ∷ xs) h zero = h zero

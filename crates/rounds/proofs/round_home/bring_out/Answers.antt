@@ -9,17 +9,17 @@ use Rattle.rounds.proofs.Rounding.{no_outcomes}
 use Rattle.rounds.proofs.round_home.bring_out.Goals.{Then-shared, Else-shared}
 use Rattle.rounds.proofs.round_home.bring_out.Goals as goal
 
-with_others : (c : Then-shared) → IsOut true c.args.blocks c.args.packets.now.items c.args.lanes.now c.args.kept.items
-with_others c = subst (λ (z : Bool). IsOut z c.args.blocks c.args.packets.now.items c.args.lanes.now c.args.kept.items) c.if-shared.true c.requires.out
+with_others : (c : Then-shared) → IsOut true c.args.blocks c.args.packets.now.items c.args.lanes.now c.args.clones.items
+with_others c = subst (λ (z : Bool). IsOut z c.args.blocks c.args.packets.now.items c.args.lanes.now c.args.clones.items) c.if-shared.true c.requires.out
 
-alone : (c : Else-shared) → IsOut false c.args.blocks c.args.packets.now.items c.args.lanes.now c.args.kept.items
-alone c = subst (λ (z : Bool). IsOut z c.args.blocks c.args.packets.now.items c.args.lanes.now c.args.kept.items) c.if-shared.false c.requires.out
+alone : (c : Else-shared) → IsOut false c.args.blocks c.args.packets.now.items c.args.lanes.now c.args.clones.items
+alone c = subst (λ (z : Bool). IsOut z c.args.blocks c.args.packets.now.items c.args.lanes.now c.args.clones.items) c.if-shared.false c.requires.out
 
 pub bring_round-requires-clause-round : goal.bring_round-requires-clause-round
 bring_round-requires-clause-round c =
     let a = c.args in
     let o = with_others (goal.at.bring_round-requires-clause-round c).Then-shared in
-    round_left a.blocks (of_outcomes a.out.now) (of_packets a.packets.now.items) (of_lanes a.lanes.now) (of_clones a.kept.items) (no_outcomes a.out.now c.requires.bare) o.round
+    round_left a.blocks (of_outcomes a.out.now) (of_packets a.packets.now.items) (of_lanes a.lanes.now) (of_clones a.clones.items) (no_outcomes a.out.now c.requires.bare) o.round
 
 pub bring_round-requires-clause-spare : goal.bring_round-requires-clause-spare
 bring_round-requires-clause-spare c = omega (arith, (with_others (goal.at.bring_round-requires-clause-spare c).Then-shared).counts, c.requires.spare)
@@ -59,7 +59,7 @@ returns-then-shared-clause-adds c =
     let a = c.args in
     let e = c.bring_round.ensures in
     let o = with_others (goal.at.returns-then-shared-clause-adds c).Then-shared in
-    let named = named_left o.names (of_outcomes a.out.now) (of_packets a.packets.now.items) (of_lanes a.lanes.now) (of_clones a.kept.items) (no_outcomes a.out.now c.requires.bare) o.named in
+    let named = named_left o.names (of_outcomes a.out.now) (of_packets a.packets.now.items) (of_lanes a.lanes.now) (of_clones a.clones.items) (no_outcomes a.out.now c.requires.bare) o.named in
     record {
       home = e.home;
       named = λ h. omega (arith, e.named o.names h named, o.weights h);

@@ -5,20 +5,20 @@ use Rattle.gro.specs.Slots.{of_packets}
 use Rattle.rounds.specs.Lanes.{of_work}
 use Rattle.rounds.specs.Marks.{by_marks, IsRound}
 use Rattle.rounds.specs.Table.{AllOpen}
-use Rattle.rounds.specs.declared.mark_table.Returned.{Returned}
+use Rattle.rounds.specs.declared.mark_table.MarkState.{MarkState}
 use Rattle.rounds.proofs.round_home.bring_round.Goals as goal
 
 pub bring_all-requires-clause-round : goal.bring_all-requires-clause-round
 bring_all-requires-clause-round c =
     let a = c.args in
-    subst (λ (n : ℕ). IsRound n (both (of_outcomes a.out.now) (both (of_packets a.packets.now.items) (of_work a.lanes.now a.kept.items)))) (sym c.split_at_mut-places.ensures.front_len) c.requires.round
+    subst (λ (n : ℕ). IsRound n (both (of_outcomes a.out.now) (both (of_packets a.packets.now.items) (of_work a.lanes.now a.clones.items)))) (sym c.split_at_mut-places.ensures.front_len) c.requires.round
 
 pub returns-clause-named : goal.returns-clause-named
 returns-clause-named c = λ names h named.
     subst (λ (n : ℕ). weighed h c.bring_all.new.pool.blocks ≡ weighed h c.args.pool.now.blocks + by_marks (λ m. h (names m)) 0 n) c.split_at_mut-places.ensures.front_len (c.bring_all.ensures.named names h named)
 
 -- open places in front of others that were open
-open_beside : (xs ys zs : List Returned) → length ys ≡ length xs → AllOpen (xs ++ zs) → AllOpen ys → AllOpen (ys ++ zs)
+open_beside : (xs ys zs : List MarkState) → length ys ≡ length xs → AllOpen (xs ++ zs) → AllOpen ys → AllOpen (ys ++ zs)
 open_beside [] [] zs e h k m = h m
 open_beside [] (y ∷ ys) zs e h k m = absurd (omega (arith, e))
 open_beside (x ∷ xs) [] zs e h k m = absurd (omega (arith, e))

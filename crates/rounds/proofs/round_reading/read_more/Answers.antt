@@ -62,7 +62,7 @@ returns-in-Err-clause-fills g c = λ start from begun.
     let told = subst (λ (k : ℕ). Told s.before next.left (GivesRecord l.used k s.at next.place [] (Err c.in-Err.stop))) i.made bare in
     let link = sym (stands_link start from _ _ _ begun) ∙ c.requires.link in
     subst (λ (ps : PacketsState). Fills c.args.pool.now.made c.args.budget start from next c.read_record.new.kept ps.items c.halt_of.result) (sym r.none)
-    (fills_stop c.args.pool.now.made c.args.budget start from now next l.kept c.read_record.new.kept l.packets.items l.used c.in-Err.stop c.halt_of.result c.halt_of.ensures.halt link i.within
+    (fills_stop c.args.pool.now.made c.args.budget start from now next l.head c.read_record.new.kept l.packets.items l.used c.in-Err.stop c.halt_of.result c.halt_of.ensures.halt link i.within
     i.round.need s told (λ lacks. r.stands (ap Err lacks) s.at s.before s.stands) r.later (λ fails. r.failed (ap Err fails)))
 
 pub returns-in-Err-clause-tells : goal.returns-in-Err-clause-tells
@@ -128,7 +128,7 @@ returns-clause-fills g c = λ start from begun.
     let l = c.reading in
     let i = l.invariant in
     let full : length l.packets.items ≡ c.args.budget = omega (arith, i.size, c.reading-test.false, c.len.ensures) in
-    fills_full c.args.pool.now.made c.args.budget start from (reached g.S.Source.left g.S.Source.faults l.reader) l.kept l.packets.items (i.unkept (omega (arith, full))) full (i.stands start from begun)
+    fills_full c.args.pool.now.made c.args.budget start from (reached g.S.Source.left g.S.Source.faults l.reader) l.head l.packets.items (i.unkept (omega (arith, full))) full (i.stands start from begun)
 
 pub returns-clause-grows : goal.returns-clause-grows
 returns-clause-grows g c =
@@ -163,7 +163,7 @@ reading-preserved g c =
       stands = λ start from begun.
           let s = i.stands start from begun in
           let told = subst (λ (f : List ℕ). Told s.before next.left (GivesRecord l.used l.pool.made s.at next.place f (Ok p))) none (r.given s.at s.before s.stands p e) in
-          stands_next start from now next l.kept c.read_record.new.kept ps qs p l.used l.pool.made e unkept s told (r.next s.at s.stands.is) (r.number s.at s.stands.is p e) r.later;
+          stands_next start from now next l.head c.read_record.new.kept ps qs p l.used l.pool.made e unkept s told (r.next s.at s.stands.is) (r.number s.at s.stands.is p e) r.later;
       tells = tells_then _ _ _ _ i.tells r.tells;
       size = size_more more c.len.ensures.len c.reading-test.true;
       unkept = λ many. unkept;

@@ -10,11 +10,11 @@ use Rattle.rounds.proofs.round_reading.read_more.Given as goal
 
 abbrev pub invariant-reading : goal.invariant-reading
 invariant-reading g l = record {
-  stands : (start : Reached) → (from : Place) → Stands start from (reached g.S.Source.left g.S.Source.faults l.initial.reader) l.initial.kept l.initial.packets.items
-      → Stands start from (reached g.S.Source.left g.S.Source.faults l.reader) l.kept l.packets.items;
+  stands : (start : Reached) → (from : Place) → Stands start from (reached g.S.Source.left g.S.Source.faults l.initial.reader) l.initial.head l.initial.packets.items
+      → Stands start from (reached g.S.Source.left g.S.Source.faults l.reader) l.head l.packets.items;
   tells : Told (g.S.Source.left l.initial.reader.source.now) (g.S.Source.left l.reader.source.now) (λ _ _. ⊤);
   size : length l.packets.items ≤ l.budget;
-  unkept : l.budget ≤ length l.packets.items → l.kept ≡ None;
+  unkept : l.budget ≤ length l.packets.items → l.head ≡ None;
   reserved : length l.initial.packets.items + l.initial.packets.room ≤ length l.packets.items + l.packets.room;
   places : l.spares.made ≡ l.initial.spares.made;
   round : IsRoundOf l.packets.items (home l.spares) l.used;

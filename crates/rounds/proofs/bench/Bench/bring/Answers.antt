@@ -16,7 +16,7 @@ use Rattle.rounds.proofs.bench.Bench.bring.Goals as goal
 pub bring_out-requires-clause-out : goal.bring_out-requires-clause-out
 bring_out-requires-clause-out c =
     let r = c.rest.inside in
-    subst (λ (n : ℕ). IsOut r.shared n r.packets.items r.lanes r.kept.items) (omega (arith, c.home.ensures.home)) c.rest.invariant.1
+    subst (λ (n : ℕ). IsOut r.shared n r.packets.items r.lanes r.clones.items) (omega (arith, c.home.ensures.home)) c.rest.invariant.1
 
 pub bring_out-requires-clause-spare : goal.bring_out-requires-clause-spare
 bring_out-requires-clause-spare c = omega (arith, ap (λ (r : RestState). r.blocks) c.rest.view_is, c.requires.may.room, ap (λ (b : BenchState). b.room) c.self.view_is)

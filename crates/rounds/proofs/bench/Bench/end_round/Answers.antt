@@ -7,5 +7,5 @@ pub invariant_of-rest : goal.invariant_of-rest
 invariant_of-rest c =
     let w = c.worked.inside in (
       c.worked.invariant.0,
-      out_beside w.shared (w.blocks - home w.spares) c.take_packets.result.items w.lanes w.kept.items c.take_packets.ensures.none c.worked.invariant.1,
+      out_beside w.shared (w.blocks - home w.spares) c.take_packets.result.items w.lanes w.clones.items c.take_packets.ensures.none c.worked.invariant.1,
     )

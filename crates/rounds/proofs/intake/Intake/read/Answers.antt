@@ -20,5 +20,5 @@ returns-clause-fills g c = λ start from stands.
     let r = c.read_more-used in
     let here = reached g.S.Source.left g.S.Source.faults c.args.reader.now in
     let begun = subst (λ (x : ReadingState). Stands start from here x.head x.round.packets) (sym c.round.view_is) stands in
-    subst (λ (i : IntakeState). Fills i.blocks i.budget start from (reached g.S.Source.left g.S.Source.faults r.new.reader) r.new.kept r.new.packets.items r.result.1) c.self.view_is
+    subst (λ (i : IntakeState). Fills i.blocks i.budget start from (reached g.S.Source.left g.S.Source.faults r.new.reader) r.new.head r.new.packets.items r.result.1) c.self.view_is
     (r.ensures.fills start from begun)
