@@ -3,6 +3,7 @@ use Rattle.std.specs.Prelude.{⊤}
 use Rattle.std.proofs.Common.{◌≡◌, ◌≢◌, ◌+◌, ◌<◌, ◌≤◌, ℕ, List, [], Option, None, Some, Ok, length, map, refl, sym, ap, ◌∙◌, arith, subst}
 use Rattle.std.proofs.lemmas.Option.{same_Some}
 use Rattle.std.specs.List.{AllByRecursion}
+use Rattle.block_pool.specs.PoolState.{weighed}
 use Rattle.off_io.specs.Faults.{Rose}
 use Rattle.off_io.specs.Told.{Told}
 use Rattle.off_io.proofs.Telling.{Told-same, Told-then}
@@ -12,14 +13,14 @@ use Rattle.pcap_io.specs.Reading.{GivesHead}
 use Rattle.offload_model.specs.Captured.{IsCaptured}
 use Rattle.offload_model.specs.Need.{need_of, round_need}
 use Rattle.gro.specs.declared.slot.Slot.{Slot as Held}
-use Rattle.gro.specs.Slots.{packet_of}
+use Rattle.gro.specs.Slots.{packet_of, weighed_slots}
 use Rattle.reading.specs.Reading.{KeepsHead, Opens, Passes}
 use Rattle.reading.proofs.Laying.{weighed_none}
 use Rattle.rounds.specs.Filling.{Fills, Reached, Stands}
 use Rattle.rounds.specs.Fresh.{NumberedFrom}
 use Rattle.rounds.specs.Reading.{GivesRound, PassesRound}
 use Rattle.rounds.specs.RoundOf.{Brought, Came, Grows, IsBegun}
-use Rattle.rounds.specs.RoundsState.{ReadingState, RoundState}
+use Rattle.rounds.specs.RoundsState.{IntakeState, ReadingState, RoundState}
 use Rattle.rounds.specs.Weights.{weights_of}
 use Rattle.rounds.specs.declared.round_stages.Halt.{Halt}
 use Rattle.rounds.specs.declared.round_stages.Halt.TheVariants.{Ended, Lacking}
@@ -146,6 +147,15 @@ came_ahead from to budget old new w x begun round ahead none is came = subst (λ
   where
     none_weigh : (h : ℕ → ℕ) → weights_of begun.round h ≡ weights_of (record { packets = []; spares = begun.round.spares; blocks = begun.round.blocks }) h
     none_weigh h = ap (λ (xs : List Held). weights_of (record { packets = xs; spares = begun.round.spares; blocks = begun.round.blocks }) h) none.none
+
+-- nothing did, where none was read
+pub came_none : (at : Brought) (intake : IntakeState) (round : RoundState) → round.packets ≡ [] → round.spares ≡ [] → round.blocks ≡ 0
+    → Came at at (length intake.stock) (length intake.stock + round.blocks) (λ h. weighed h intake.stock) (λ h. weighed h intake.stock + weights_of round h)
+came_none at intake round none bare empty = record {
+  sum = omega (arith, empty);
+  named = λ h. omega (arith, ap (weighed_slots h) none, ap (weighed h) bare);
+  asked = omega arith;
+}
 
 -- ---- the rest of a round, behind the header that is kept
 

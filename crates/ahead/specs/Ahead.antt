@@ -1,6 +1,7 @@
 -- What is said of a round that is read beside the work of another.
 use Rattle.std.specs.Prelude.{ℕ, ◌≡◌, ◌≢◌, ◌+◌, ◌-◌, ◌^◌, ◌<◌, ◌≤◌, List, length, map, min, Option, Some, Ok}
 use Rattle.std.specs.List.{AllByRecursion}
+use Rattle.block_pool.specs.PoolState.{weighed}
 use Rattle.off_io.specs.Faults.{Rose}
 use Rattle.off_io.specs.Told.{Told}
 use Rattle.pcap_io.specs.declared.heads.RecHead.{RecHead}
@@ -14,7 +15,9 @@ use Rattle.rounds.specs.Fresh.{NumberedFrom}
 use Rattle.rounds.specs.Filling.{Reached}
 use Rattle.rounds.specs.Reading.{GivesRound, PassesRound}
 use Rattle.reading.specs.Reading.{KeepsHead, Passes}
-use Rattle.rounds.specs.RoundsState.{ReadingState, RoundState}
+use Rattle.rounds.specs.RoundOf.{Brought, Came, TakesBlocks}
+use Rattle.rounds.specs.RoundsState.{IntakeState, ReadingState, RoundState}
+use Rattle.rounds.specs.Weights.{weights_of}
 use Rattle.rounds.specs.declared.round_stages.Halt.{Halt}
 use Rattle.rounds.specs.declared.round_stages.Halt.TheVariants as halts
 use Rattle.ahead.specs.PausedState.{PausedState as Paused}
@@ -104,3 +107,16 @@ pub record FillsAhead (blocks budget : ℕ) (from to : Reached) (ahead : ReadAhe
   pub waits : IfPaused ahead (Waits budget from.place to.place from.left to.left)
   pub later : from.faults ≤ to.faults
   pub failed : IfRead ahead (λ read. read.end ≡ ends.ReadFault → Rose from.faults to.faults)
+
+-- The next round was read as far as its blocks came: what it is, what it lacks where it goes on, and what was brought
+-- and taken meanwhile.
+pub record ReadsNext (from to : Reached) (old new : IntakeState) (before after : Brought) (ahead : ReadAhead) : Type 0 where
+  pub fills : FillsAhead old.blocks old.budget from to ahead
+  pub paused : IfPaused ahead (Lacks (length new.stock) old.blocks old.taken new.taken)
+  pub refused : IfPaused ahead (λ _. min (before.refusals + 1) (2 ^ 64 - 1) ≤ after.refusals)
+  pub came : Came before after (length old.stock) (length new.stock + (round_of ahead).blocks)
+      (λ h. weighed h old.stock) (λ h. weighed h new.stock + weights_of (round_of ahead) h)
+  pub same : (new.blocks ≡ old.blocks) × (new.budget ≡ old.budget) × (new.empties ≡ old.empties)
+      × (new.pauses ≡ old.pauses)
+  pub budget : (1 ≤ old.budget) × (old.budget ≤ 4096)
+  pub takes : TakesBlocks old.blocks old.taken new.taken 0 (round_of ahead).blocks

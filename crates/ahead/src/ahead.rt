@@ -17,15 +17,15 @@ ghost use Rattle.offload_model.specs.Written.{round_records};
 ghost use Rattle.gro.specs.Slots.{packet_of};
 ghost use Rattle.lanes.specs.Lanes.{IsMerged};
 ghost use Rattle.reading.specs.Reading.{KeepsHead};
-ghost use Rattle.rounds.specs.Benches.{options_at, GivesSpares, IsLent, LendsWork};
+ghost use Rattle.rounds.specs.Benches.{IsLent, WorksLent};
 ghost use Rattle.rounds.specs.Filling.{reached};
 ghost use Rattle.rounds.specs.Lanes.{worked_records, IsKeptWorkOf, WorksAs};
 ghost use Rattle.rounds.specs.Merging.{options_of};
 ghost use Rattle.rounds.specs.Reading.{GivesRound};
-ghost use Rattle.rounds.specs.RoundOf.{brought_by, Came, TakesBlocks};
+ghost use Rattle.rounds.specs.RoundOf.{brought_by, TakesBlocks};
 ghost use Rattle.rounds.specs.Weights.{weights_of, weights_left};
 ghost use Rattle.ahead.specs.Ahead.{round_of, FillsAhead, FillsRound, GivesBehind, IfPaused, IfRead, Lacks, NumberedTo};
-ghost use Rattle.ahead.specs.Ahead.{NumbersOn, ReadsAhead, Waits};
+ghost use Rattle.ahead.specs.Ahead.{NumbersOn, ReadsAhead, ReadsNext, Waits};
 ghost use Rattle.ahead.specs.Out.{blocks_out, brought_listed, weights_out, GaveWorked};
 
 use crate::next_lists::{ListName, NextLists};
@@ -52,18 +52,8 @@ fn read_next<R: Sync, S: Source, H: Supply>(
     requires ready { IsReady (place_of reader.old) }
     requires link { (place_of reader.old).link ≡ Ethernet }
     ensures same_source { SameLoan reader.old reader.new }
-    ensures fills { FillsAhead intake.old.blocks intake.old.budget (reached S.left S.faults reader.old)
-        (reached S.left S.faults reader.new) result }
-    ensures paused { IfPaused result (Lacks (length intake.new.stock) intake.old.blocks intake.old.taken
-        intake.new.taken) }
-    ensures refused { IfPaused result (λ _. min (H.refusals more.old + 1) (2 ^ 64 - 1) ≤ H.refusals more.new) }
-    ensures came { Came (brought_by H.weights H.refusals more.old) (brought_by H.weights H.refusals more.new)
-        (length intake.old.stock) (length intake.new.stock + (round_of result).blocks) (λ h. weighed h intake.old.stock)
-        (λ h. weighed h intake.new.stock + weights_of (round_of result) h) }
-    ensures same { (intake.new.blocks ≡ intake.old.blocks) × (intake.new.budget ≡ intake.old.budget)
-        × (intake.new.empties ≡ intake.old.empties) × (intake.new.pauses ≡ intake.old.pauses) }
-    ensures budget { (1 ≤ intake.old.budget) × (intake.old.budget ≤ 4096) }
-    ensures takes { TakesBlocks intake.old.blocks intake.old.taken intake.new.taken 0 (round_of result).blocks }
+    ensures reads { ReadsNext (reached S.left S.faults reader.old) (reached S.left S.faults reader.new) intake.old
+        intake.new (brought_by H.weights H.refusals more.old) (brought_by H.weights H.refusals more.new) result }
 {
     let mut reading = match intake.begin() {
         Ok(reading) => reading,
@@ -89,26 +79,10 @@ fn work_beside<'a, R: Threads + Wait + Sync, N: ListName + Send, W: Works, S: So
     requires few { round.old.blocks ≤ bench.old.blocks }
     requires lent { IsLent giver.old }
     ensures same_source { SameLoan reader.old reader.new }
-    ensures fills { FillsAhead intake.old.blocks intake.old.budget (reached S.left S.faults reader.old)
-        (reached S.left S.faults reader.new) result.0 }
-    ensures paused { IfPaused result.0 (Lacks (length intake.new.stock) intake.old.blocks intake.old.taken
-        intake.new.taken) }
-    ensures refused { IfPaused result.0 (λ _. min (more.old.taker.pass.empties + 1) (2 ^ 64 - 1)
-        ≤ more.new.taker.pass.empties) }
-    ensures came { Came (brought_listed more.old.taker.pass more.old.taker.left)
-        (brought_listed more.new.taker.pass more.new.taker.left) (length intake.old.stock)
-        (length intake.new.stock + (round_of result.0).blocks) (λ h. weighed h intake.old.stock)
-        (λ h. weighed h intake.new.stock + weights_of (round_of result.0) h) }
-    ensures intake { (intake.new.blocks ≡ intake.old.blocks) × (intake.new.budget ≡ intake.old.budget)
-        × (intake.new.empties ≡ intake.old.empties) × (intake.new.pauses ≡ intake.old.pauses) }
-    ensures budget { (1 ≤ intake.old.budget) × (intake.old.budget ≤ 4096) }
-    ensures takes { TakesBlocks intake.old.blocks intake.old.taken intake.new.taken 0 (round_of result.0).blocks }
-    ensures works { WorksAs (options_at bench.old) bench.old.keep (map packet_of round.old.packets) result.1 }
-    ensures lends { LendsWork round.old.blocks (weights_of round.old) giver.old giver.new result.1 }
-    ensures spent { (round.new.packets ≡ []) × (round.new.spares ≡ []) }
-    ensures gives_spares { W.gives ≡ true
-        → IfOk result.1 (λ _. GivesSpares (length round.old.spares) giver.old giver.new) }
-    ensures same { bench.new ≡ bench.old }
+    ensures reads { ReadsNext (reached S.left S.faults reader.old) (reached S.left S.faults reader.new) intake.old
+        intake.new (brought_listed more.old.taker.pass more.old.taker.left)
+        (brought_listed more.new.taker.pass more.new.taker.left) result.0 }
+    ensures works { WorksLent W.gives bench.old bench.new round.old round.new giver.old giver.new result.1 }
 {
     join_mut(
         rt,
@@ -116,36 +90,16 @@ fn work_beside<'a, R: Threads + Wait + Sync, N: ListName + Send, W: Works, S: So
             requires ready { IsReady (place_of reader.now) }
             requires link { (place_of reader.now).link ≡ Ethernet }
             ensures same_source { SameLoan reader.entry.now reader.exit.now }
-            ensures fills { FillsAhead intake.entry.now.blocks intake.entry.now.budget
-                (reached S.left S.faults reader.entry.now) (reached S.left S.faults reader.exit.now) result }
-            ensures paused { IfPaused result (Lacks (length intake.exit.now.stock) intake.entry.now.blocks
-                intake.entry.now.taken intake.exit.now.taken) }
-            ensures refused { IfPaused result (λ _. min (more.entry.now.taker.pass.empties + 1) (2 ^ 64 - 1)
-                ≤ more.exit.now.taker.pass.empties) }
-            ensures came { Came (brought_listed more.entry.now.taker.pass more.entry.now.taker.left)
-                (brought_listed more.exit.now.taker.pass more.exit.now.taker.left) (length intake.entry.now.stock)
-                (length intake.exit.now.stock + (round_of result).blocks)
-                (λ h. weighed h intake.entry.now.stock)
-                (λ h. weighed h intake.exit.now.stock + weights_of (round_of result) h) }
-            ensures intake { (intake.exit.now.blocks ≡ intake.entry.now.blocks)
-                × (intake.exit.now.budget ≡ intake.entry.now.budget)
-                × (intake.exit.now.empties ≡ intake.entry.now.empties)
-                × (intake.exit.now.pauses ≡ intake.entry.now.pauses) }
-            ensures budget { (1 ≤ intake.entry.now.budget) × (intake.entry.now.budget ≤ 4096) }
-            ensures takes { TakesBlocks intake.entry.now.blocks intake.entry.now.taken intake.exit.now.taken 0
-                (round_of result).blocks }
+            ensures reads { ReadsNext (reached S.left S.faults reader.entry.now)
+                (reached S.left S.faults reader.exit.now) intake.entry.now intake.exit.now
+                (brought_listed more.entry.now.taker.pass more.entry.now.taker.left)
+                (brought_listed more.exit.now.taker.pass more.exit.now.taker.left) result }
         { read_next(rt, intake, reader, more) },
         &mut || -> Result<Worked, Rest>
             requires few { round.now.blocks ≤ bench.now.blocks }
             requires lent { IsLent giver.now }
-            ensures works { WorksAs (options_at bench.entry.now) bench.entry.now.keep
-                (map packet_of round.entry.now.packets) result }
-            ensures lends { LendsWork round.entry.now.blocks (weights_of round.entry.now) giver.entry.now
-                giver.exit.now result }
-            ensures spent { (round.exit.now.packets ≡ []) × (round.exit.now.spares ≡ []) }
-            ensures gives_spares { W.gives ≡ true
-                → IfOk result (λ _. GivesSpares (length round.entry.now.spares) giver.entry.now giver.exit.now) }
-            ensures same { bench.exit.now ≡ bench.entry.now }
+            ensures works { WorksLent W.gives bench.entry.now bench.exit.now round.entry.now round.exit.now
+                giver.entry.now giver.exit.now result }
         { bench.work_lent(rt, works, round, giver) },
     )
 }

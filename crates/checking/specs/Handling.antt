@@ -16,7 +16,7 @@ use Rattle.check_totals.specs.Checking.{counting}
 use Rattle.check_totals.specs.Tallies.{CountsOn, Tallies}
 use Rattle.rounds.specs.declared.round_stages.RoundEnd.{RoundEnd}
 use Rattle.rounds.specs.declared.round_stages.RoundEnd.TheVariants as read_ends
-use Rattle.rounds.specs.Benches.{options_at, BringsBeside, IsLent, IsReadRound, Lends, MayBring}
+use Rattle.rounds.specs.Benches.{options_at, BringsBeside, IsLent, IsAsRead, Lends, MayBring}
 use Rattle.rounds.specs.RoundsState.{BenchState, RoundState}
 use Rattle.rounds.specs.Weights.{weights_of}
 use Rattle.checking.specs.declared.counting.CheckEnd.{CheckEnd}
@@ -79,7 +79,7 @@ pub record MayCount (round : RoundState) (bench : BenchState) (pool : PoolState)
   pub may : MayBring round.blocks bench pool
   pub lent : IsLent giver
   pub keep : bench.keep ≡ true
-  pub read : IsReadRound round
+  pub read : IsAsRead round
   pub lanes : HasLanes (options_at bench) totals
   pub within : (n : ℕ) × (n ≤ 2 ^ 32) × AreOf n totals
 

@@ -9,7 +9,7 @@ use Rattle.pcap_io.specs.Places.{IsReady}
 use Rattle.rounds.specs.declared.round_stages.RoundEnd.TheVariants as ends
 use Rattle.rounds.specs.declared.round_stages.RoundRead.{RoundRead}
 use Rattle.rounds.specs.declared.spares.Spares.{Spares}
-use Rattle.rounds.specs.Benches.{HasRoom, IsLent, IsReadRound, IsSameBench, Lends}
+use Rattle.rounds.specs.Benches.{HasRoom, IsLent, IsAsRead, IsSameBench, Lends}
 use Rattle.rounds.specs.Handled.{Ends, FewPauses, GaveSpares, IsReadyAtEnd, Rests}
 use Rattle.rounds.specs.Merging.{options_of}
 use Rattle.rounds.specs.Reads.{Spot, Reads, is_full}
@@ -50,7 +50,7 @@ pub record MayGoOn (read : RoundRead) (place : Place) : Type 0 where
 pub record IsFirstOut {T : Type 0} (starts : ℕ → T → Type 0) (rounds : RoundsState) (read : RoundRead) (place : Place)
     (into : T) : Type 0 where
   pub out : length rounds.stock + read.round.blocks ≡ rounds.blocks
-  pub is : IsReadRound read.round
+  pub is : IsAsRead read.round
   pub goes : read.end ≡ ends.Full → MayGoOn read place
   pub start : starts 0 into
 

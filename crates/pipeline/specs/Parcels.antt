@@ -2,7 +2,7 @@
 use Rattle.std.specs.Prelude.{ℕ, ◌≡◌, ◌+◌, ◌-◌, ◌^◌, ◌≤◌, min, Option, List, [], ◌∷◌, ◌++◌, length}
 use Rattle.block_pool.specs.Giving.{GiverState, weights_given}
 use Rattle.block_pool.specs.PoolState.{PoolState, home, weighed}
-use Rattle.rounds.specs.Benches.{IsReadRound, Lends, UnlessFull}
+use Rattle.rounds.specs.Benches.{IsAsRead, Lends, UnlessFull}
 use Rattle.rounds.specs.declared.round_stages.RoundRead.{RoundRead}
 use Rattle.rounds.specs.declared.spares.Spares.{Spares}
 use Rattle.rounds.specs.Weights.{weights_of}
@@ -22,7 +22,7 @@ packets_of (read ∷ rs) = length read.round.packets + packets_of rs
 pub record IsFit (n : ℕ) (before : List Parcel) (p : Parcel) : Type 0 where
   pub number : p.number ≡ length (rounds_of before)
   pub packets : packets_of (rounds_of before) ≤ 2 ^ 32
-  pub is : IsReadRound p.read.round
+  pub is : IsAsRead p.read.round
   pub blocks : p.read.round.blocks ≤ n
 
 -- it came behind these, and its blocks have places beside those of a list

@@ -4,7 +4,7 @@ ghost use Rattle.std.specs.Prelude.{true, None, Ok, IfSome, IfOk, OnOk};
 ghost use Rattle.std.specs.Arc.{arc_value};
 ghost use Rattle.block_pool.specs.PoolState.{home};
 ghost use Rattle.pcap_io.specs.Readers.{place_of, SameLoan};
-ghost use Rattle.rounds.specs.Benches.{HasRoom, IsReadRound, IsSameBench};
+ghost use Rattle.rounds.specs.Benches.{HasRoom, IsAsRead, IsSameBench};
 ghost use Rattle.rounds.specs.Handled.{Handled};
 ghost use Rattle.rounds.specs.Merging.{options_of};
 ghost use Rattle.rounds.specs.Reads.{reader_at};
@@ -70,7 +70,7 @@ fn send_first<N: PoolName, R: Wait>(
 )
     requires none { sent out.old ≡ [] }
     requires within { read.round.blocks ≤ N.blocks }
-    requires read { IsReadRound read.round }
+    requires read { IsAsRead read.round }
     ensures ring { SameProducer out.old out.new }
     ensures sent { IsAlone read (sent out.new) }
 {

@@ -12,6 +12,8 @@ mod Rounding
 mod Counting
 -- a round that waits behind a header, and its rest
 pub mod Pausing
+-- what it comes to, by each way that it ends
+mod Ending
 -- what a call keeps of a round
 mod Working
 -- what lanes hold, the last one apart

@@ -69,6 +69,12 @@ is_fault _ = false
 pub no_memory_fault : ends.NoMemory ≡ ends.ReadFault → ⊥
 no_memory_fault e = false≢true (ap is_fault e)
 
+pub given_up_full : ends.GivenUp ≡ ends.Full → ⊥
+given_up_full e = false≢true (ap is_full e)
+
+pub given_up_fault : ends.GivenUp ≡ ends.ReadFault → ⊥
+given_up_fault e = false≢true (ap is_fault e)
+
 pub lacking_full : Lacking ≡ Ended ends.Full → ⊥
 lacking_full e = false≢true (sym (ap is_lacking e))
 

@@ -1,6 +1,6 @@
 -- The side of rounds that works: what it needs so that blocks may come home, and what is so once they have.
 use Rattle.std.specs.Prelude.{ℕ, ◌≡◌, ◌⊎◌, ◌+◌, ◌-◌, ◌^◌, ◌≤◌, min, Option, None, Some, List, [], length}
-use Rattle.std.specs.Prelude.{map, IfErr, IfOk, Result}
+use Rattle.std.specs.Prelude.{map, true, Bool, IfErr, IfOk, Result}
 use Rattle.std.specs.List.{AllByRecursion}
 use Rattle.raw_block.specs.Views.{SoleState}
 use Rattle.block_pool.specs.Giving.{GiverState, given_by, given_in, weights_given}
@@ -12,7 +12,8 @@ use Rattle.gro.specs.Slots.{packet_of}
 use Rattle.lanes.specs.Work.{options_by}
 use Rattle.rounds.specs.Fresh.{NumberedFrom}
 use Rattle.rounds.specs.RoundsState.{BenchState, IntakeState, RestState, RoundState, WorkedState}
-use Rattle.rounds.specs.Weights.{weights_left, weights_worked}
+use Rattle.rounds.specs.Lanes.{WorksAs}
+use Rattle.rounds.specs.Weights.{weights_left, weights_of, weights_worked}
 
 abbrev pub options_at : BenchState → Options
 options_at bench = options_by bench.plan bench.budget
@@ -108,13 +109,23 @@ UnlessFull (Some g) new P = P ⊎ (risen g.pass.fulls ≤ fulls_by new)
 abbrev pub GivesSpares : ℕ → Option GiverState → Option GiverState → Type 0
 GivesSpares n old new = UnlessFull old new (given_by old + n ≤ given_by new)
 
+-- The round that lay there was worked beside others, or what is left of it is there for want of memory. Nothing of it
+-- lies there any more, and who gives gave its spares.
+pub record WorksLent (gives : Bool) (bench bench' : BenchState) (round round' : RoundState)
+    (giver giver' : Option GiverState) (result : Result WorkedState RestState) : Type 0 where
+  pub works : WorksAs (options_at bench) bench.keep (map packet_of round.packets) result
+  pub lends : LendsWork round.blocks (weights_of round) giver giver' result
+  pub spent : (round'.packets ≡ []) × (round'.spares ≡ [])
+  pub gives_spares : gives ≡ true → IfOk result (λ _. GivesSpares (length round.spares) giver giver')
+  pub same : bench' ≡ bench
+
 -- a list against the giver's, where there is one
 abbrev pub Swaps : Option GiverState → Option GiverState → PoolState → PoolState → Type 0
 Swaps None new list list' = (new ≡ None) × (list' ≡ list)
 Swaps (Some g) new list list' = (new ≡ Some (record g { list = list })) × (list' ≡ g.list)
 
 -- a round as it is read
-pub record IsReadRound (round : RoundState) : Type 0 where
+pub record IsAsRead (round : RoundState) : Type 0 where
   pub few : length round.packets ≤ 4096
   pub captured : AllByRecursion IsCaptured (map packet_of round.packets)
   pub numbers : (k : ℕ) × NumberedFrom k round.packets

@@ -80,7 +80,6 @@ pub record Stepped {T E : Type 0} (did : T → T → RoundRead → ℕ → Optio
     (blocks budget k : ℕ) (from to : Spot) (old new : T) (result : Option E) : Type 0 where
   pub read : RoundRead
   pub reads : ReadRound blocks budget from to read
-  pub few : length read.round.packets ≤ budget
   pub most : budget ≤ 4096
   pub handled : did old new read k result
   pub full : result ≡ None → read.end ≡ ends.Full

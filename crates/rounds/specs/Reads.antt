@@ -10,6 +10,7 @@ use Rattle.pcap_io.specs.Readers.{place_of, source_of}
 use Rattle.offload_model.specs.Captured.{IsCaptured}
 use Rattle.offload_model.specs.Need.{round_need}
 use Rattle.gro.specs.Slots.{packet_of}
+use Rattle.rounds.specs.Fresh.{NumberedFrom}
 use Rattle.rounds.specs.declared.round_stages.RoundEnd.{RoundEnd}
 use Rattle.rounds.specs.declared.round_stages.RoundEnd.TheVariants as ends
 use Rattle.rounds.specs.declared.round_stages.RoundRead.{RoundRead}
@@ -34,12 +35,14 @@ spot place left faults taken = record { place = place; left = left; faults = fau
 abbrev pub reader_at : {S : Type 0} → (S → Option (List ℕ)) → (S → ℕ) → CaptureReader S → ℕ → Spot
 reader_at left faults reader taken = spot (place_of reader) (left (source_of reader)) (faults (source_of reader)) taken
 
--- a round was read
+-- A round was read: it has the next packets of the capture, in their order, and has ended so by the bytes alone.
 pub record ReadRound (blocks budget : ℕ) (from to : Spot) (read : RoundRead) : Type 0 where
   pub given : Told from.left to.left (GivesRound blocks from.place to.place read.round.packets read.end)
+  pub size : length read.round.packets ≤ budget
   pub fewer : (read.end ≢ ends.Full) → (read.end ≢ ends.NoMemory) → length read.round.packets < budget
   pub full : read.end ≡ ends.Full → PassesRound from.place to.place read.round.packets budget
   pub captured : AllByRecursion IsCaptured (map packet_of read.round.packets)
+  pub numbers : NumberedFrom from.place.number read.round.packets
   pub need : read.round.blocks ≡ round_need (map packet_of read.round.packets)
   pub within : read.round.blocks ≤ blocks
   pub some : 1 ≤ budget

@@ -1,5 +1,5 @@
 //! The side of rounds that works.
-ghost use Rattle.std.specs.Prelude.{◌≡◌, ◌≢◌, ◌+◌, ◌*◌, ◌≤◌, true, false, [], length, map, All};
+ghost use Rattle.std.specs.Prelude.{◌≡◌, ◌+◌, ◌*◌, ◌≤◌, true, false, [], length, map, All};
 ghost use Rattle.std.specs.Prelude.{ℕ, IfOk, OnOk, OnErr};
 ghost use Rattle.std.specs.Io.KnownBytes.{Appends};
 ghost use Rattle.block_pool.specs.Giving.{given_by, weights_given};
@@ -11,8 +11,8 @@ ghost use Rattle.gro.specs.Slots.{packet_of};
 ghost use Rattle.lanes.specs.Lanes.{AreIdle, IsMerged};
 ghost use Rattle.lanes.specs.Work.{IsPlan};
 ghost use Rattle.rounds.specs.Benches.{options_at, Brings, BringsBeside, GivesSpares, IsLent, IsSameBench};
-ghost use Rattle.rounds.specs.Benches.{LeavesNoSpare, Lends, LendsWork, MayBring};
-ghost use Rattle.rounds.specs.Lanes.{worked_bytes, worked_records, IsAloneWork, IsKeptWorkOf, WorksAs};
+ghost use Rattle.rounds.specs.Benches.{LeavesNoSpare, Lends, MayBring, WorksLent};
+ghost use Rattle.rounds.specs.Lanes.{worked_bytes, worked_records, IsAloneWork, IsKeptWorkOf};
 ghost use Rattle.rounds.specs.RoundOf.{IsBegun};
 ghost use Rattle.rounds.specs.Weights.{weights_of, weights_worked, weights_left};
 
@@ -266,13 +266,8 @@ impl Bench {
     ) -> Result<Worked, Rest>
         requires few { round.old.blocks ≤ self.old.blocks }
         requires lent { IsLent giver.old }
-        ensures works { WorksAs (options_at self.old) self.old.keep (map packet_of round.old.packets) result }
+        ensures works { WorksLent W.gives self.old self.new round.old round.new giver.old giver.new result }
         ensures alone { self.old.keep ≡ false → self.old.plan.taps ≡ 0 → IfOk result IsAloneWork }
-        ensures lends { LendsWork round.old.blocks (weights_of round.old) giver.old giver.new result }
-        ensures spent { (round.new.packets ≡ []) × (round.new.spares ≡ []) }
-        ensures gives_spares { W.gives ≡ true
-            → IfOk result (λ _. GivesSpares (length round.old.spares) giver.old giver.new) }
-        ensures same { self.new ≡ self.old }
     {
         let RoundRead {
             round: none,

@@ -1,18 +1,11 @@
 //! Rounds are read while another thread works those before, and paused where blocks don't come.
-ghost use Rattle.std.specs.Prelude.{◌≡◌, ◌≢◌, ◌⊎◌, ◌+◌, ◌-◌, ◌<◌, ◌≤◌, ◌^◌, length, map, min, false, true, ℕ};
-ghost use Rattle.std.specs.List.{AllByRecursion};
+ghost use Rattle.std.specs.Prelude.{◌≡◌, ◌⊎◌, ◌+◌, ◌-◌, ◌≤◌, ◌^◌, length, min, false, true, ℕ};
 ghost use Rattle.block_pool.specs.PoolState.{weighed};
-ghost use Rattle.off_io.specs.Faults.{Rose};
-ghost use Rattle.off_io.specs.Told.{Told};
 ghost use Rattle.pcap_io.specs.declared.heads.Link.TheVariants.{Ethernet};
 ghost use Rattle.pcap_io.specs.Places.{IsReady};
-ghost use Rattle.pcap_io.specs.Readers.{place_of, source_of, SameLoan};
-ghost use Rattle.offload_model.specs.Need.{round_need};
-ghost use Rattle.offload_model.specs.Captured.{IsCaptured};
-ghost use Rattle.gro.specs.Slots.{packet_of};
-ghost use Rattle.rounds.specs.Fresh.{NumberedFrom};
+ghost use Rattle.pcap_io.specs.Readers.{place_of, SameLoan};
 ghost use Rattle.rounds.specs.Weights.{weights_of};
-ghost use Rattle.rounds.specs.Reading.{GivesRound, PassesRound};
+ghost use Rattle.rounds.specs.Reads.{reader_at, ReadRound};
 ghost use Rattle.rounds.specs.RoundOf.{brought_by, Came};
 
 use crate::intake::Intake;
@@ -64,19 +57,10 @@ impl Intake {
         requires ready { IsReady (place_of reader.old) }
         requires link { (place_of reader.old).link ≡ Ethernet }
         ensures same_source { SameLoan reader.old reader.new }
-        ensures given { Told (S.left (source_of reader.old)) (S.left (source_of reader.new))
-            (GivesRound self.old.blocks (place_of reader.old) (place_of reader.new) result.round.packets result.end) }
-        ensures size { length result.round.packets ≤ self.old.budget }
-        ensures fewer { (result.end ≢ RoundEnd.Full) → (result.end ≢ RoundEnd.NoMemory)
-            → length result.round.packets < self.old.budget }
-        ensures full { result.end ≡ RoundEnd.Full → PassesRound (place_of reader.old)
-            (place_of reader.new) result.round.packets self.old.budget }
-        ensures captured { AllByRecursion IsCaptured (map packet_of result.round.packets) }
-        ensures numbers { NumberedFrom (place_of reader.old).number result.round.packets }
-        ensures need { result.round.blocks ≡ round_need (map packet_of result.round.packets) }
+        ensures read { ReadRound self.old.blocks self.old.budget (reader_at S.left S.faults reader.old self.old.taken)
+            (reader_at S.left S.faults reader.new self.new.taken) result }
         ensures named { (h : ℕ → ℕ) → weighed h self.new.stock + weights_of result.round h + H.weights more.old h
             ≡ weighed h self.old.stock + H.weights more.new h }
-        ensures within { result.round.blocks ≤ self.old.blocks }
         ensures same { (self.new.blocks ≡ self.old.blocks) × (self.new.budget ≡ self.old.budget)
             × (self.new.empties ≡ self.old.empties) }
         ensures paused { (self.new.pauses ≡ self.old.pauses)
@@ -85,13 +69,9 @@ impl Intake {
         ensures later_pauses { self.old.pauses ≤ self.new.pauses }
         ensures asked { H.refusals more.old ≤ H.refusals more.new }
         ensures budget { (1 ≤ self.old.budget) × (self.old.budget ≤ 4096) }
-        ensures taken { min (self.old.taken + result.round.blocks) (2 ^ 64 - 1) ≤ self.new.taken }
         ensures least { self.old.taken ≤ self.new.taken }
-        ensures later { S.faults (source_of reader.old) ≤ S.faults (source_of reader.new) }
         ensures given_up { result.end ≡ RoundEnd.GivenUp → H.ended more.new ≡ true }
         ensures whole { result.end ≡ RoundEnd.NoMemory → (place_of reader.new).body ≡ 0 }
-        ensures failed { result.end ≡ RoundEnd.ReadFault
-            → Rose (S.faults (source_of reader.old)) (S.faults (source_of reader.new)) }
     {
         let mut round = match self.begin() {
             Ok(round) => round,

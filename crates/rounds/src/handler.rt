@@ -2,7 +2,7 @@
 ghost use Rattle.std.specs.Prelude.{◌≡◌, ◌+◌, ◌≤◌, ◌^◌, ℕ, Bool, true, Option, None, length};
 ghost use Rattle.offload_model.specs.Written.{Options};
 ghost use Rattle.rounds.specs.declared.round_stages.RoundRead.{RoundRead as ReadState};
-ghost use Rattle.rounds.specs.Benches.{options_at, BringsBeside, GivesSpares, IsLent, IsReadRound, Lends, MayBring};
+ghost use Rattle.rounds.specs.Benches.{options_at, BringsBeside, GivesSpares, IsLent, IsAsRead, Lends, MayBring};
 ghost use Rattle.rounds.specs.Weights.{weights_of};
 
 use crate::bench::Bench;
@@ -37,7 +37,7 @@ pub trait RoundHandler<T, E> {
     ) -> Option<E>
         requires may { MayBring read.round.blocks bench.old home.old }
         requires lent { IsLent giver.old }
-        requires read { IsReadRound read.round }
+        requires read { IsAsRead read.round }
         requires ready { (n : ℕ) × (n ≤ 2 ^ 32) × ready (options_at bench.old) bench.old.keep n into.old }
         ensures did { did self.now (options_at bench.old) into.old into.new read number result }
         ensures full { result ≡ None → read.end ≡ RoundEnd.Full }

@@ -22,9 +22,9 @@
 //!
 //! Proved, by the names of the clauses of [`Rounds`]:
 //!
-//! - `given` of `read_round`: the packets are the next ones of the capture, and the end is told by its bytes alone;
-//!   `PoolEmpty` exactly where the round's need first exceeds the blocks, with that need, judged by the record's
-//!   header.
+//! - `read` of `read_round` (`ReadRound` of `specs/Reads.antt`), its given: the packets are the next ones of the
+//!   capture, and the end is told by its bytes alone; `PoolEmpty` exactly where the round's need first exceeds the
+//!   blocks, with that need, judged by the record's header.
 //! - `records` of `work_round`: the records that are written of the round are those of the model, queue by queue what
 //!   the maximal runs of each flow come to, in the order of their first packets, and then tap by tap its windows of
 //!   what is shown of the packets as they were read, whoever works the lanes and whatever the order in which they run.
@@ -58,12 +58,12 @@
 //!   spares of rounds that were worked beside a reader [`Rounds::spares`] tells.
 //! - `alone` of [`Bench`]: where there are no taps and no clones are kept, nobody but a round's packets holds a block
 //!   of them once it was worked.
-//! - `given` of `read_beside` of [`Intake`]: of a round that is read while another thread works, whose blocks are
+//! - `read` of `read_beside` of [`Intake`]: of a round that is read while another thread works, whose blocks are
 //!   waited for, what `read_round` says. It pauses only behind the header of a record that needs more blocks than are
 //!   home, which is kept, and `pauses` counts that (`paused`): only where who brings blocks counts that it found none.
 //!   `given_up`: a paused round is given up, an end of its own, only where that thread keeps the blocks. `whole`: for
 //!   want of memory a round ends between two records alone, so a paused one goes on first.
-//! - `fills`, `grows`, `refused` of `read` of [`Intake`], `works`, `lends` of `work_lent` of [`Bench`]: the same by its
+//! - `fills`, `grows`, `refused` of `read` of [`Intake`], `works` of `work_lent` of [`Bench`]: the same by its
 //!   parts, for whoever drives rounds one by one (the crate `ahead`).
 //! - `captured` of `Merged`: the packets that are merged are such as a capture may hold, since each was read into
 //!   fields of 32 bits and into bytes.

@@ -1,26 +1,22 @@
 //! Rounds of records, over one pool of blocks.
-ghost use Rattle.std.specs.Prelude.{◌≡◌, ◌≢◌, ◌+◌, ◌-◌, ◌<◌, ◌≤◌, ◌^◌, true, None, length, map, min, All, IfOk, OnOk};
+ghost use Rattle.std.specs.Prelude.{◌≡◌, ◌+◌, ◌≤◌, ◌^◌, true, None, length, map, All, IfOk, OnOk};
 ghost use Rattle.std.specs.Prelude.{ℕ, OnErr};
-ghost use Rattle.std.specs.List.{AllByRecursion};
 ghost use Rattle.std.specs.Io.KnownBytes.{Appends};
 ghost use Rattle.block_pool.specs.PoolState.{weighed};
 ghost use Rattle.off_io.specs.Content.{AppendsPrefix};
-ghost use Rattle.off_io.specs.Faults.{HasCause, Rose};
-ghost use Rattle.off_io.specs.Told.{Told};
+ghost use Rattle.off_io.specs.Faults.{HasCause};
 ghost use Rattle.pcap_io.specs.declared.heads.Link.TheVariants.{Ethernet};
 ghost use Rattle.pcap_io.specs.Places.{IsReady};
-ghost use Rattle.pcap_io.specs.Readers.{place_of, source_of, SameLoan};
-ghost use Rattle.offload_model.specs.Need.{round_need};
-ghost use Rattle.offload_model.specs.Captured.{IsCaptured};
+ghost use Rattle.pcap_io.specs.Readers.{place_of, SameLoan};
 ghost use Rattle.offload_model.specs.Written.{round_records};
 ghost use Rattle.gro.specs.Slots.{packet_of};
 ghost use Rattle.lanes.specs.Lanes.{IsMerged};
 ghost use Rattle.lanes.specs.Work.{IsPlan};
-ghost use Rattle.rounds.specs.Benches.{IsReadRound};
-ghost use Rattle.rounds.specs.Fresh.{NumberedFrom};
+ghost use Rattle.rounds.specs.Benches.{IsAsRead};
 ghost use Rattle.rounds.specs.Lanes.{worked_bytes, worked_records, IsKeptWorkOf};
 ghost use Rattle.rounds.specs.Merging.{options_of};
-ghost use Rattle.rounds.specs.Reading.{EndsAt, GivesRound, PassesRound};
+ghost use Rattle.rounds.specs.Reading.{EndsAt};
+ghost use Rattle.rounds.specs.Reads.{reader_at, ReadRound};
 ghost use Rattle.rounds.specs.Weights.{weights_of, weights_left, weights_worked};
 
 use crate::bench::Bench;
@@ -176,16 +172,8 @@ impl Rounds {
         requires link { (place_of reader.old).link ≡ Ethernet }
         requires home { length self.old.stock ≡ self.old.blocks }
         ensures same_source { SameLoan reader.old reader.new }
-        ensures given { Told (S.left (source_of reader.old)) (S.left (source_of reader.new))
-            (GivesRound self.old.blocks (place_of reader.old) (place_of reader.new) result.round.packets result.end) }
-        ensures size { length result.round.packets ≤ self.old.budget }
-        ensures fewer { (result.end ≢ RoundEnd.Full) → (result.end ≢ RoundEnd.NoMemory)
-            → length result.round.packets < self.old.budget }
-        ensures full { result.end ≡ RoundEnd.Full → PassesRound (place_of reader.old)
-            (place_of reader.new) result.round.packets self.old.budget }
-        ensures captured { AllByRecursion IsCaptured (map packet_of result.round.packets) }
-        ensures numbers { NumberedFrom (place_of reader.old).number result.round.packets }
-        ensures need { result.round.blocks ≡ round_need (map packet_of result.round.packets) }
+        ensures read { ReadRound self.old.blocks self.old.budget (reader_at S.left S.faults reader.old self.old.taken)
+            (reader_at S.left S.faults reader.new self.new.taken) result }
         ensures home { length self.new.stock + result.round.blocks ≡ self.old.blocks }
         ensures named { (h : ℕ → ℕ) → weighed h self.new.stock + weights_of result.round h ≡ weighed h self.old.stock }
         ensures same { (self.new.blocks ≡ self.old.blocks) × (options_of self.new ≡ options_of self.old)
@@ -193,13 +181,9 @@ impl Rounds {
         ensures counts { (self.new.empties ≡ self.old.empties) × (self.new.pauses ≡ self.old.pauses)
             × (self.new.spares ≡ self.old.spares) }
         ensures budget { (1 ≤ self.old.budget) × (self.old.budget ≤ 4096) }
-        ensures taken { min (self.old.taken + result.round.blocks) (2 ^ 64 - 1) ≤ self.new.taken }
         ensures least { self.old.taken ≤ self.new.taken }
         ensures most { self.new.taken ≤ self.old.taken + self.old.blocks }
         ensures stands { EndsAt result.end (place_of reader.new) }
-        ensures later { S.faults (source_of reader.old) ≤ S.faults (source_of reader.new) }
-        ensures failed { result.end ≡ RoundEnd.ReadFault
-            → Rose (S.faults (source_of reader.old)) (S.faults (source_of reader.new)) }
     {
         let mut round = match self.bench.begin() {
             Ok(round) => round,
@@ -303,7 +287,7 @@ impl Rounds {
         into: &mut T,
     ) -> Option<E>
         requires out { length self.old.stock + read.round.blocks ≤ self.old.blocks }
-        requires read { IsReadRound read.round }
+        requires read { IsAsRead read.round }
         requires ready { (n : ℕ) × (n ≤ 2 ^ 32) × H.ready (options_of self.old) self.old.keep n into.old }
         ensures did { H.did handler.now (options_of self.old) into.old into.new read number result }
         ensures full { result ≡ None → read.end ≡ RoundEnd.Full }

@@ -78,7 +78,7 @@ came_listed g c =
     let w = c.work_beside-read in
     let more = w.new.more.taker in
     let none = ap (λ (t : Taker). blocks_in t.pass.taken) c.new-more.ensures.same ∙ ap blocks_in c.requires.untaken.0 in
-    omega (arith, w.ensures.came.sum, ones more.left.blocks, more.weighs (λ _. 1), none)
+    omega (arith, w.ensures.reads.came.sum, ones more.left.blocks, more.weighs (λ _. 1), none)
 
 pub bring_lists-requires-clause-room : goal.bring_lists-requires-clause-room
 bring_lists-requires-clause-room g c =
@@ -86,19 +86,19 @@ bring_lists-requires-clause-room g c =
     omega (
       arith,
       came_listed g (goal.at.bring_lists-requires-clause-room g c).After-work_beside-read,
-      lent_within c.args.round.blocks (given_in c.args.giver) (given_by w.new.giver) w.result.1 w.ensures.lends.worked w.ensures.lends.rest,
+      lent_within c.args.round.blocks (given_in c.args.giver) (given_by w.new.giver) w.result.1 w.ensures.works.lends.worked w.ensures.works.lends.rest,
       ap blocks_in c.requires.ungiven.1,
       c.requires.out,
       ap (λ (s : RoundsState). length s.stock) c.rounds.view_is,
       ap (λ (s : RoundsState). s.blocks) c.rounds.view_is,
-      w.ensures.intake.0,
+      w.ensures.reads.same.0,
     )
 
 pub close_work-requires : goal.close_work-requires
 close_work-requires g c =
     let w = c.work_beside-read in
     record {
-      out = rest_within c.args.round.blocks (given_in c.args.giver) (given_by w.new.giver) (length c.bring_lists.new.intake.stock) c.bring_lists.new.intake.blocks w.result.1 w.ensures.lends.rest (omega (
+      out = rest_within c.args.round.blocks (given_in c.args.giver) (given_by w.new.giver) (length c.bring_lists.new.intake.stock) c.bring_lists.new.intake.blocks w.result.1 w.ensures.works.lends.rest (omega (
         arith,
         came_listed g (goal.at.close_work-requires g c).After-work_beside-read,
         c.bring_lists.ensures.home,
@@ -107,7 +107,7 @@ close_work-requires g c =
         c.requires.out,
         ap (λ (s : RoundsState). length s.stock) c.rounds.view_is,
         ap (λ (s : RoundsState). s.blocks) c.rounds.view_is,
-        w.ensures.intake.0,
+        w.ensures.reads.same.0,
       ));
     }
 
@@ -118,7 +118,7 @@ returns-clause-home g c =
       arith,
       came_listed g (goal.at.returns-clause-home g c).After-work_beside-read,
       c.bring_lists.ensures.home,
-      closed_home c.args.round.blocks (given_in c.args.giver) (given_by w.new.giver) w.result.1 _ _ c.close_work.new.rounds c.close_work.ensures.worked c.close_work.ensures.home w.ensures.lends.worked w.ensures.lends.rest,
+      closed_home c.args.round.blocks (given_in c.args.giver) (given_by w.new.giver) w.result.1 _ _ c.close_work.new.rounds c.close_work.ensures.worked c.close_work.ensures.home w.ensures.works.lends.worked w.ensures.works.lends.rest,
       ap blocks_in c.requires.ungiven.1,
       c.requires.out,
       ap (λ (s : RoundsState). length s.stock) c.rounds.view_is,
@@ -139,7 +139,7 @@ returns-clause-fills g c =
     let to = reached g.S.Source.left g.S.Source.faults w.new.reader in
     let blocks : i.blocks ≡ c.args.rounds.now.blocks = ap (λ (s : RoundsState). s.blocks) c.rounds.view_is in
     let budget : i.budget ≡ c.args.rounds.now.budget = omega (arith, c.rounds.invariant.budget, ap (λ (s : RoundsState). s.budget) c.rounds.view_is) in
-    subst (λ (n : ℕ). FillsAhead n c.args.rounds.now.budget from to w.result.0) blocks (subst (λ (n : ℕ). FillsAhead i.blocks n from to w.result.0) budget w.ensures.fills)
+    subst (λ (n : ℕ). FillsAhead n c.args.rounds.now.budget from to w.result.0) blocks (subst (λ (n : ℕ). FillsAhead i.blocks n from to w.result.0) budget w.ensures.reads.fills)
 
 pub returns-clause-works : goal.returns-clause-works
 returns-clause-works g c =
@@ -147,7 +147,7 @@ returns-clause-works g c =
     let is = c.close_work.ensures.worked in
     let ps = map packet_of c.args.round.packets in
     let options = options_of c.args.rounds.now in
-    let lent = subst (λ (b : BenchState). WorksAs (options_at b) b.keep ps w.result.1) c.make_room.ensures.same w.ensures.works in
+    let lent = subst (λ (b : BenchState). WorksAs (options_at b) b.keep ps w.result.1) c.make_room.ensures.same w.ensures.works.works in
     let works = subst (λ (s : RoundsState). WorksAs (options_of s) s.keep ps w.result.1) c.rounds.view_is lent in
     record {
       records = closed_ok (λ (v : WorkedState). worked_records v ≡ round_records options ps) w.result.1 c.close_work.result is works.records;
@@ -161,7 +161,7 @@ returns-clause-later_empties g c =
     omega (
       arith,
       ap (λ (s : RoundsState). s.empties) c.rounds.view_is,
-      w.ensures.intake.2,
+      w.ensures.reads.same.2,
       c.bring_lists.ensures.later,
       closed_empties w.result.1 _ c.close_work.new.rounds c.close_work.ensures.home,
     )
@@ -175,5 +175,5 @@ returns-clause-gives g c = λ gives.
     let refused = ap (λ (s : Spares). s.refused) (closed_spares w.result.1 _ c.close_work.new.rounds c.close_work.ensures.home) in
     let before = ap (λ (s : RoundsState). s.spares.refused) c.rounds.view_is in
     closed_ok (GaveWorked (length c.args.round.spares) c.args.round.blocks c.args.rounds.now.spares.refused c.close_work.new.rounds.spares.refused w.result.0) w.result.1 c.close_work.result c.close_work.ensures.worked
-    (gave_worked (length c.args.round.spares) c.args.round.blocks c.args.rounds.now.spares.refused c.close_work.new.rounds.spares.refused c.args.giver w.new.giver w.result.0 w.result.1 w.ensures.lends.worked
-    (w.ensures.gives_spares gives) (λ full. omega (arith, full, refused, before, c.bring_lists.ensures.fulls, ap (λ (s : Spares). s.refused) c.refuse.ensures.counted)))
+    (gave_worked (length c.args.round.spares) c.args.round.blocks c.args.rounds.now.spares.refused c.close_work.new.rounds.spares.refused c.args.giver w.new.giver w.result.0 w.result.1 w.ensures.works.lends.worked
+    (w.ensures.works.gives_spares gives) (λ full. omega (arith, full, refused, before, c.bring_lists.ensures.fulls, ap (λ (s : Spares). s.refused) c.refuse.ensures.counted)))

@@ -61,18 +61,7 @@ all_read g c =
         reads = reads_last c.args.intake.now.blocks c.args.intake.now.budget _ _ _ e.read.more c.read_beside-read.result e.read.reads i.go
             (read_as c.args.intake.now.blocks c.bring_more.new.self.blocks c.args.intake.now.budget c.bring_more.new.self.budget l.intake.taken c.bring_more.new.self.taken
             l.reader.place (g.S.Source.left l.reader.source.now) (g.S.Source.faults l.reader.source.now) _ c.read_beside-read.result (b.same.0 ∙ e.same.0) (b.same.2 ∙ e.same.1) b.same.1
-            (record {
-              given = r.given;
-              fewer = r.fewer;
-              full = r.full;
-              captured = r.captured;
-              need = r.need;
-              within = r.within;
-              some = r.budget.0;
-              took = r.taken;
-              later = r.later;
-              failed = r.failed;
-            }));
+            r.read);
       };
       named = λ h.
           read_more (weighed h l.intake.stock) (weights_sent h (sent l.supply.out)) (weights_to c.args.supply.now.arrivals h) (weighed h c.args.intake.now.stock) (weights_sent h (sent c.args.supply.now.out))
@@ -83,7 +72,7 @@ all_read g c =
           (few_paused _ _ _ _ _ _ (few_later _ _ _ _ _ _ e.paused (most_same _ _ _ (sym (ap (λ t. t.pass.empties) w)) b.asked) b.same.4) r.asked r.later_pauses r.paused)
           (least_equal _ _ (ap (λ t. t.pass.empties) d)) refl;
       same = (r.same.0 ∙ b.same.0 ∙ e.same.0, r.same.1 ∙ b.same.2 ∙ e.same.1, r.same.2 ∙ b.same.3 ∙ e.same.2);
-      later = least_then _ _ _ e.later r.later;
+      later = least_then _ _ _ e.later r.read.later;
     }
 
 pub returns-then-has_stopped-clause-read : goal.returns-then-has_stopped-clause-read
@@ -122,8 +111,8 @@ send-requires g c =
           (record {
             number = i.number;
             packets = least_then _ _ _ i.packets i.ready.counted.few;
-            is = record { few = least_then _ _ _ r.size r.budget.1; captured = r.captured; numbers = (l.reader.place.number, r.numbers) };
-            blocks = least_same _ _ _ (sym (c.bring_more.ensures.same.0 ∙ i.read.same.0 ∙ c.requires.reads.named)) r.within;
+            is = record { few = least_then _ _ _ r.read.size r.budget.1; captured = r.read.captured; numbers = (l.reader.place.number, r.read.numbers) };
+            blocks = least_same _ _ _ (sym (c.bring_more.ensures.same.0 ∙ i.read.same.0 ∙ c.requires.reads.named)) r.read.within;
           });
     }
 
@@ -153,7 +142,7 @@ loop-preserved g c =
     let read = c.read_beside-read.result in
     let on = sym c.is_full.ensures.full ∙ c.if-not-is_full.false in
     let full = full_end read.end on in
-    let passes = r.full full in
+    let passes = r.read.full full in
     let now = rounds_last (sent l.supply.out) _ (parcel g p) (sent_now g p) in
     record {
       ring = ring_now g p;

@@ -2,7 +2,7 @@ use Rattle.std.proofs.Common.{◌≡◌, ◌+◌, ◌-◌, ◌≤◌, ◌^◌, �
 use Rattle.block_pool.specs.Giving.{given_by, weights_given}
 use Rattle.block_pool.specs.PoolState.{home, weighed}
 use Rattle.rtrb.specs.Ring.{received}
-use Rattle.rounds.specs.Benches.{options_at, GivesSpares, IsReadRound, Lends}
+use Rattle.rounds.specs.Benches.{options_at, GivesSpares, IsAsRead, Lends}
 use Rattle.rounds.specs.RoundsState.{BenchState}
 use Rattle.rounds.specs.Weights.{weights_of}
 use Rattle.rounds.specs.declared.round_stages.RoundRead.{RoundRead}
@@ -137,7 +137,7 @@ handle-requires-clause-may g c =
     (ap (λ (b : BenchState). b.blocks) i.bench ∙ c.requires.works.named) item.room i.room
 
 pub handle-requires-clause-read : goal.handle-requires-clause-read
-handle-requires-clause-read g c = subst (λ (r : RoundRead). IsReadRound r.round) (sym c.open-number.ensures.same.1) c.in-Some-next_round.ensures.item.fits.is
+handle-requires-clause-read g c = subst (λ (r : RoundRead). IsAsRead r.round) (sym c.open-number.ensures.same.1) c.in-Some-next_round.ensures.item.fits.is
 
 pub loop-init : goal.loop-init
 loop-init g c =

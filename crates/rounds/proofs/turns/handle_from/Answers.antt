@@ -84,5 +84,5 @@ returns-in-Some-clause-handled g c =
       };
       rests = rests_then first l.rounds new.rounds from at to i.rests c.in-Some.ensures.rests;
       named = λ h. omega (arith, i.named h, c.in-Some.ensures.named h);
-      counted = (s.counted.0, omega (arith, s.counted.1, i.ready.counted.few, s.few, s.most), s.counted.2);
+      counted = (s.counted.0, omega (arith, s.counted.1, i.ready.counted.few, s.reads.size, s.most), s.counted.2);
     }

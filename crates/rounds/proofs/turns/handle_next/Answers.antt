@@ -1,6 +1,7 @@
-use Rattle.std.proofs.Common.{◌∙◌, ◌+◌, arith, subst, sym, ap, length}
+use Rattle.std.proofs.Common.{◌∙◌, ◌+◌, ℕ, arith, subst, sym, ap, length}
 use Rattle.offload_model.specs.Written.{Options}
 use Rattle.rounds.specs.Merging.{options_of}
+use Rattle.rounds.specs.Reads.{reader_at, ReadRound}
 use Rattle.rounds.specs.RoundsState.{RoundsState}
 use Rattle.rounds.proofs.Going.{few_none, gave_none, ready_as}
 use Rattle.rounds.proofs.turns.handle_next.Goals as goal
@@ -8,7 +9,7 @@ use Rattle.rounds.proofs.turns.handle_next.Goals as goal
 pub handle-requires-clause-read : goal.handle-requires-clause-read
 handle-requires-clause-read g c =
     let r = c.read_round-read.ensures in
-    record { few = omega (arith, r.size, r.budget.1); captured = r.captured; numbers = (c.args.reader.now.place.number, r.numbers) }
+    record { few = omega (arith, r.read.size, r.budget.1); captured = r.read.captured; numbers = (c.args.reader.now.place.number, r.read.numbers) }
 
 pub handle-requires-clause-ready : goal.handle-requires-clause-ready
 handle-requires-clause-ready g c =
@@ -34,19 +35,8 @@ returns-clause-stepped g c =
     let ready = g.H.RoundHandler.ready in
     record {
       read = read;
-      reads = record {
-        given = r.given;
-        fewer = r.fewer;
-        full = r.full;
-        captured = r.captured;
-        need = r.need;
-        within = omega (arith, r.home);
-        some = r.budget.0;
-        took = omega (arith, r.taken, ap (λ (x : RoundsState). x.taken) h.home.0);
-        later = r.later;
-        failed = r.failed;
-      };
-      few = r.size;
+      reads = subst (λ (n : ℕ). ReadRound first.blocks first.budget (reader_at g.S.Source.left g.S.Source.faults c.args.reader.now first.taken)
+          (reader_at g.S.Source.left g.S.Source.faults c.read_round-read.new.reader n) read) (sym (ap (λ (x : RoundsState). x.taken) h.home.0)) r.read;
       most = r.budget.1;
       handled = subst (λ (o : Options). did o c.args.into.now c.handle.new.into read c.args.number c.handle.result) r.same.1 h.did;
       full = h.full;
@@ -68,7 +58,7 @@ returns-clause-rests g c =
       least = omega (arith, r.least, ap (λ (x : RoundsState). x.taken) h.home.0);
       pauses = few_none _ _ _ _ (omega (arith, r.counts.0, ap (λ (x : RoundsState). x.empties) h.home.0)) (ap (λ (x : RoundsState). x.pauses) h.home.0 ∙ r.counts.1);
       gives = gave_none c.args.rounds.now.spares c.handle.new.self.spares (ap (λ (x : RoundsState). x.spares) h.home.0 ∙ r.counts.2);
-      later = r.later;
+      later = r.read.later;
     }
 
 pub returns-clause-named : goal.returns-clause-named

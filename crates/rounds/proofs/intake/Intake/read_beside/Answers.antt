@@ -1,13 +1,10 @@
-use Rattle.std.proofs.Common.{ap, length, arith, sym, refl, ◌∙◌, subst}
-use Rattle.off_io.proofs.Telling.{Told-weaker}
-use Rattle.pcap_io.specs.Reading.{Loses}
+use Rattle.std.proofs.Common.{◌∙◌, ap, arith, length, refl, sym}
 use Rattle.rounds.specs.Filling.{reached}
-use Rattle.rounds.specs.Fresh.{NumberedFrom}
-use Rattle.rounds.specs.Reading.{GivesRound}
-use Rattle.rounds.specs.RoundsState.{RoundState}
+use Rattle.rounds.specs.Reads.{reader_at}
 use Rattle.rounds.specs.declared.round_stages.Halt.TheVariants.{Ended}
 use Rattle.rounds.specs.declared.round_stages.RoundEnd.TheVariants.{GivenUp}
-use Rattle.rounds.proofs.Pausing.{fills_ended, lacking_from, stands_begun, stands_link, stands_lost}
+use Rattle.rounds.proofs.Ending.{read_ended, read_given_up, read_none}
+use Rattle.rounds.proofs.Pausing.{lacking_from, lacking_full, stands_begun, stands_link}
 use Rattle.rounds.proofs.intake.Intake.read_beside.Goals as goal
 
 pub read-requires-clause-stands : goal.read-requires-clause-stands
@@ -18,83 +15,40 @@ read-requires-clause-stands g c =
 pub read-requires-clause-fewer : goal.read-requires-clause-fewer
 read-requires-clause-fewer g c = omega (arith, ap length c.in-Ok.ensures.begun.none, c.begin.ensures.budget.0)
 
-pub returns-in-Ended-clause-given : goal.returns-in-Ended-clause-given
-returns-in-Ended-clause-given g c =
-    let here = reached g.S.Source.left g.S.Source.faults c.args.reader.now in
-    let begun = stands_begun _ here c.in-Ok.round c.requires.ready c.in-Ok.ensures.begun in
-    let to = reached g.S.Source.left g.S.Source.faults c.read.new.reader in
-    let same = ap (λ (r : RoundState). r.packets) c.into_round-round.ensures.same in
-    let f = fills_ended here here.place to c.read.new.round.round.packets c.into_round-round.result.packets (Ended c.in-Ended.end) c.in-Ended.end refl refl refl same (c.in-Ended.ensures.fills here here.place begun) in
-    f.given
+pub returns-in-Err-clause-read : goal.returns-in-Err-clause-read
+returns-in-Err-clause-read g c =
+    let n = c.read_none in
+    read_none c.args.self.now.blocks c.args.self.now.budget (reader_at g.S.Source.left g.S.Source.faults c.args.reader.now c.args.self.now.taken) _ n.result n.ensures.none.0 n.ensures.none.2 n.ensures.end
+    n.ensures.budget.0 (omega arith)
 
-pub returns-in-Ended-clause-full : goal.returns-in-Ended-clause-full
-returns-in-Ended-clause-full g c =
+pub returns-in-Ended-clause-read : goal.returns-in-Ended-clause-read
+returns-in-Ended-clause-read g c =
+    let r = c.read in
+    let e = c.in-Ended.ensures in
     let here = reached g.S.Source.left g.S.Source.faults c.args.reader.now in
     let begun = stands_begun _ here c.in-Ok.round c.requires.ready c.in-Ok.ensures.begun in
-    let to = reached g.S.Source.left g.S.Source.faults c.read.new.reader in
-    let same = ap (λ (r : RoundState). r.packets) c.into_round-round.ensures.same in
-    let f = fills_ended here here.place to c.read.new.round.round.packets c.into_round-round.result.packets (Ended c.in-Ended.end) c.in-Ended.end refl refl refl same (c.in-Ended.ensures.fills here here.place begun) in
-    λ full. f.full (ap Ended full)
+    read_ended (reader_at g.S.Source.left g.S.Source.faults c.args.reader.now c.args.self.now.taken) (reader_at g.S.Source.left g.S.Source.faults r.new.reader r.new.self.taken) r.new.round.round
+    (record { round = c.into_round-round.result; end = c.in-Ended.end }) (Ended c.in-Ended.end) refl refl refl c.into_round-round.ensures.same (e.fills here here.place begun) e.grows.size e.grows.fewer
+    e.captured e.need e.grows.takes.within e.budget.0 (omega (arith, e.grows.takes.taken, c.in-Ok.ensures.begun.empty))
 
-pub returns-in-Ended-clause-numbers : goal.returns-in-Ended-clause-numbers
-returns-in-Ended-clause-numbers g c =
+pub returns-then-not-bring_rest-clause-read : goal.returns-then-not-bring_rest-clause-read
+returns-then-not-bring_rest-clause-read g c =
+    let r = c.read in
+    let e = r.ensures in
     let here = reached g.S.Source.left g.S.Source.faults c.args.reader.now in
     let begun = stands_begun _ here c.in-Ok.round c.requires.ready c.in-Ok.ensures.begun in
-    let to = reached g.S.Source.left g.S.Source.faults c.read.new.reader in
-    let same = ap (λ (r : RoundState). r.packets) c.into_round-round.ensures.same in
-    let f = fills_ended here here.place to c.read.new.round.round.packets c.into_round-round.result.packets (Ended c.in-Ended.end) c.in-Ended.end refl refl refl same (c.in-Ended.ensures.fills here here.place begun) in
-    f.numbers
-
-pub returns-in-Ended-clause-later : goal.returns-in-Ended-clause-later
-returns-in-Ended-clause-later g c =
-    let here = reached g.S.Source.left g.S.Source.faults c.args.reader.now in
-    let begun = stands_begun _ here c.in-Ok.round c.requires.ready c.in-Ok.ensures.begun in
-    let to = reached g.S.Source.left g.S.Source.faults c.read.new.reader in
-    let same = ap (λ (r : RoundState). r.packets) c.into_round-round.ensures.same in
-    let f = fills_ended here here.place to c.read.new.round.round.packets c.into_round-round.result.packets (Ended c.in-Ended.end) c.in-Ended.end refl refl refl same (c.in-Ended.ensures.fills here here.place begun) in
-    f.later
-
-pub returns-in-Ended-clause-failed : goal.returns-in-Ended-clause-failed
-returns-in-Ended-clause-failed g c =
-    let here = reached g.S.Source.left g.S.Source.faults c.args.reader.now in
-    let begun = stands_begun _ here c.in-Ok.round c.requires.ready c.in-Ok.ensures.begun in
-    let to = reached g.S.Source.left g.S.Source.faults c.read.new.reader in
-    let same = ap (λ (r : RoundState). r.packets) c.into_round-round.ensures.same in
-    let f = fills_ended here here.place to c.read.new.round.round.packets c.into_round-round.result.packets (Ended c.in-Ended.end) c.in-Ended.end refl refl refl same (c.in-Ended.ensures.fills here here.place begun) in
-    λ fault. f.failed (ap Ended fault)
-
-pub returns-then-not-bring_rest-clause-given : goal.returns-then-not-bring_rest-clause-given
-returns-then-not-bring_rest-clause-given g c =
-    let here = reached g.S.Source.left g.S.Source.faults c.args.reader.now in
-    let begun = stands_begun _ here c.in-Ok.round c.requires.ready c.in-Ok.ensures.begun in
-    let mid = reached g.S.Source.left g.S.Source.faults c.read.new.reader in
-    let waits = (c.read.ensures.fills here here.place begun).waits (lacking_from c.read.result c.in_default.not-Ended) in
-    let round = c.into_round-round-then-not-bring_rest.result.packets in
-    Told-weaker here.left mid.left Loses (GivesRound c.args.self.now.blocks here.place mid.place round GivenUp) (λ bytes left loses. loses) (stands_lost here here.place mid _ _ waits)
-
-pub returns-then-not-bring_rest-clause-numbers : goal.returns-then-not-bring_rest-clause-numbers
-returns-then-not-bring_rest-clause-numbers g c =
-    let here = reached g.S.Source.left g.S.Source.faults c.args.reader.now in
-    let begun = stands_begun _ here c.in-Ok.round c.requires.ready c.in-Ok.ensures.begun in
-    let mid = reached g.S.Source.left g.S.Source.faults c.read.new.reader in
-    let waits = (c.read.ensures.fills here here.place begun).waits (lacking_from c.read.result c.in_default.not-Ended) in
-    subst (λ (r : RoundState). NumberedFrom here.place.number r.packets) (sym c.into_round-round-then-not-bring_rest.ensures.same) waits.numbers
-
-pub returns-then-not-bring_rest-clause-later : goal.returns-then-not-bring_rest-clause-later
-returns-then-not-bring_rest-clause-later g c =
-    let here = reached g.S.Source.left g.S.Source.faults c.args.reader.now in
-    let begun = stands_begun _ here c.in-Ok.round c.requires.ready c.in-Ok.ensures.begun in
-    let mid = reached g.S.Source.left g.S.Source.faults c.read.new.reader in
-    let waits = (c.read.ensures.fills here here.place begun).waits (lacking_from c.read.result c.in_default.not-Ended) in
-    waits.later
+    let lacks = lacking_from r.result c.in_default.not-Ended in
+    read_given_up c.args.self.now.blocks c.args.self.now.budget (reader_at g.S.Source.left g.S.Source.faults c.args.reader.now c.args.self.now.taken)
+    (reader_at g.S.Source.left g.S.Source.faults r.new.reader c.bring_rest.new.self.taken) r.new.round.head r.new.round.round
+    (record { round = c.into_round-round-then-not-bring_rest.result; end = GivenUp }) refl c.into_round-round-then-not-bring_rest.ensures.same ((e.fills here here.place begun).waits lacks)
+    (e.grows.fewer (λ full. lacking_full (sym lacks ∙ full))) e.captured e.need e.grows.takes.within e.budget.0
+    (omega (arith, e.grows.takes.taken, c.in-Ok.ensures.begun.empty, c.bring_rest.ensures.same.1))
 
 pub read-halt-requires-clause-stands : goal.read-halt-requires-clause-stands
 read-halt-requires-clause-stands g c =
     let here = reached g.S.Source.left g.S.Source.faults c.args.reader.now in
     let begun = stands_begun _ here c.in-Ok.round c.requires.ready c.in-Ok.ensures.begun in
-    let mid = reached g.S.Source.left g.S.Source.faults c.read.new.reader in
-    let waits = (c.read.ensures.fills here here.place begun).waits (lacking_from c.read.result c.in_default.not-Ended) in
-    (here, (here.place, waits))
+    (here, (here.place, (c.read.ensures.fills here here.place begun).waits (lacking_from c.read.result c.in_default.not-Ended)))
 
 pub read-halt-requires-clause-link : goal.read-halt-requires-clause-link
 read-halt-requires-clause-link g c =
@@ -104,62 +58,16 @@ read-halt-requires-clause-link g c =
     let waits = (c.read.ensures.fills here here.place begun).waits (lacking_from c.read.result c.in_default.not-Ended) in
     stands_link here here.place mid _ _ waits ∙ c.requires.link
 
-pub returns-clause-given : goal.returns-clause-given
-returns-clause-given g c =
+pub returns-clause-read : goal.returns-clause-read
+returns-clause-read g c =
+    let r = c.read-halt in
+    let e = r.ensures in
+    let first = c.read.ensures in
+    let brought = c.bring_rest.ensures.same in
     let here = reached g.S.Source.left g.S.Source.faults c.args.reader.now in
     let begun = stands_begun _ here c.in-Ok.round c.requires.ready c.in-Ok.ensures.begun in
-    let mid = reached g.S.Source.left g.S.Source.faults c.read.new.reader in
-    let waits = (c.read.ensures.fills here here.place begun).waits (lacking_from c.read.result c.in_default.not-Ended) in
-    let to = reached g.S.Source.left g.S.Source.faults c.read-halt.new.reader in
-    let same = ap (λ (r : RoundState). r.packets) c.into_round-round-2.ensures.same in
-    let f = fills_ended here here.place to c.read-halt.new.round.round.packets c.into_round-round-2.result.packets c.read-halt.result c.end-end.result (c.bring_rest.ensures.same.0 ∙ c.read.ensures.same.0)
-    (c.bring_rest.ensures.same.2 ∙ c.read.ensures.same.1) c.end-end.ensures.end same (c.read-halt.ensures.fills here here.place waits) in
-    f.given
-
-pub returns-clause-full : goal.returns-clause-full
-returns-clause-full g c =
-    let here = reached g.S.Source.left g.S.Source.faults c.args.reader.now in
-    let begun = stands_begun _ here c.in-Ok.round c.requires.ready c.in-Ok.ensures.begun in
-    let mid = reached g.S.Source.left g.S.Source.faults c.read.new.reader in
-    let waits = (c.read.ensures.fills here here.place begun).waits (lacking_from c.read.result c.in_default.not-Ended) in
-    let to = reached g.S.Source.left g.S.Source.faults c.read-halt.new.reader in
-    let same = ap (λ (r : RoundState). r.packets) c.into_round-round-2.ensures.same in
-    let f = fills_ended here here.place to c.read-halt.new.round.round.packets c.into_round-round-2.result.packets c.read-halt.result c.end-end.result (c.bring_rest.ensures.same.0 ∙ c.read.ensures.same.0)
-    (c.bring_rest.ensures.same.2 ∙ c.read.ensures.same.1) c.end-end.ensures.end same (c.read-halt.ensures.fills here here.place waits) in
-    λ full. f.full (ap Ended full)
-
-pub returns-clause-numbers : goal.returns-clause-numbers
-returns-clause-numbers g c =
-    let here = reached g.S.Source.left g.S.Source.faults c.args.reader.now in
-    let begun = stands_begun _ here c.in-Ok.round c.requires.ready c.in-Ok.ensures.begun in
-    let mid = reached g.S.Source.left g.S.Source.faults c.read.new.reader in
-    let waits = (c.read.ensures.fills here here.place begun).waits (lacking_from c.read.result c.in_default.not-Ended) in
-    let to = reached g.S.Source.left g.S.Source.faults c.read-halt.new.reader in
-    let same = ap (λ (r : RoundState). r.packets) c.into_round-round-2.ensures.same in
-    let f = fills_ended here here.place to c.read-halt.new.round.round.packets c.into_round-round-2.result.packets c.read-halt.result c.end-end.result (c.bring_rest.ensures.same.0 ∙ c.read.ensures.same.0)
-    (c.bring_rest.ensures.same.2 ∙ c.read.ensures.same.1) c.end-end.ensures.end same (c.read-halt.ensures.fills here here.place waits) in
-    f.numbers
-
-pub returns-clause-later : goal.returns-clause-later
-returns-clause-later g c =
-    let here = reached g.S.Source.left g.S.Source.faults c.args.reader.now in
-    let begun = stands_begun _ here c.in-Ok.round c.requires.ready c.in-Ok.ensures.begun in
-    let mid = reached g.S.Source.left g.S.Source.faults c.read.new.reader in
-    let waits = (c.read.ensures.fills here here.place begun).waits (lacking_from c.read.result c.in_default.not-Ended) in
-    let to = reached g.S.Source.left g.S.Source.faults c.read-halt.new.reader in
-    let same = ap (λ (r : RoundState). r.packets) c.into_round-round-2.ensures.same in
-    let f = fills_ended here here.place to c.read-halt.new.round.round.packets c.into_round-round-2.result.packets c.read-halt.result c.end-end.result (c.bring_rest.ensures.same.0 ∙ c.read.ensures.same.0)
-    (c.bring_rest.ensures.same.2 ∙ c.read.ensures.same.1) c.end-end.ensures.end same (c.read-halt.ensures.fills here here.place waits) in
-    f.later
-
-pub returns-clause-failed : goal.returns-clause-failed
-returns-clause-failed g c =
-    let here = reached g.S.Source.left g.S.Source.faults c.args.reader.now in
-    let begun = stands_begun _ here c.in-Ok.round c.requires.ready c.in-Ok.ensures.begun in
-    let mid = reached g.S.Source.left g.S.Source.faults c.read.new.reader in
-    let waits = (c.read.ensures.fills here here.place begun).waits (lacking_from c.read.result c.in_default.not-Ended) in
-    let to = reached g.S.Source.left g.S.Source.faults c.read-halt.new.reader in
-    let same = ap (λ (r : RoundState). r.packets) c.into_round-round-2.ensures.same in
-    let f = fills_ended here here.place to c.read-halt.new.round.round.packets c.into_round-round-2.result.packets c.read-halt.result c.end-end.result (c.bring_rest.ensures.same.0 ∙ c.read.ensures.same.0)
-    (c.bring_rest.ensures.same.2 ∙ c.read.ensures.same.1) c.end-end.ensures.end same (c.read-halt.ensures.fills here here.place waits) in
-    λ fault. f.failed (ap Ended fault)
+    let waits = (first.fills here here.place begun).waits (lacking_from c.read.result c.in_default.not-Ended) in
+    read_ended (reader_at g.S.Source.left g.S.Source.faults c.args.reader.now c.args.self.now.taken) (reader_at g.S.Source.left g.S.Source.faults r.new.reader r.new.self.taken) r.new.round.round
+    (record { round = c.into_round-round-2.result; end = c.end-end.result }) r.result (brought.0 ∙ first.same.0) (brought.2 ∙ first.same.1) c.end-end.ensures.end c.into_round-round-2.ensures.same
+    (e.fills here here.place waits) e.grows.size e.grows.fewer e.captured e.need e.grows.takes.within e.budget.0
+    (omega (arith, first.grows.takes.taken, first.grows.takes.least.0, c.in-Ok.ensures.begun.empty, brought.1, e.grows.takes.taken, e.grows.takes.least.0))
