@@ -351,7 +351,14 @@ impl Engine {
     }
 
     /// A packet that the last packet's run doesn't take: its flow's run takes it, or it opens one.
-    fn place<F: Frame>(&mut self, packets: &[F], i: u32, slot: &F, candidacy: Candidacy, limits: Limits)
+    fn place<F: Frame>(
+        &mut self,
+        packets: &[F],
+        i: u32,
+        slot: &F,
+        candidacy: Candidacy,
+        limits: Limits,
+    )
         requires runs { AreRuns (map F.packet packets.now) i self.old }
         requires places { HasPlaces self.old 1 }
         requires slots { AllByRecursion F.is_held packets.now }

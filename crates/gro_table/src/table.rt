@@ -162,8 +162,7 @@ impl RoundTable {
         let count = weigh(&packet);
         self.list.push(packet);
         let limits = Limits::up_to(self.segs);
-        self.engine
-            .receive(&self.list.slots, self.received, limits);
+        self.engine.receive(&self.list.slots, self.received, limits);
         self.count += count;
         self.received += 1;
         self.above = above;

@@ -6,6 +6,7 @@ use inet_sum::Partial;
 use ip_headers::{Ip4View, set_id};
 use net_bytes::{Order, be16, put_be16};
 use off_io::{Feed, StdSink, StdSource, SureSource, read_full, write_all};
+use offload_model::Limits;
 use pcap_io::{CaptureReader, FRAME_LIMIT, Link};
 use std::test::Fail;
 use tap_filter::Program;
@@ -22,6 +23,13 @@ fn example_of_net_bytes(rt: HostRuntime) {
     put_be16(frame, 16, total.wrapping_add(1));
     let seconds = Order::Little.get32(header);
     assert_eq!(rt; (total, bytes[17], seconds), (44, 45, 1));
+}
+
+#[test]
+fn example_of_offload_model(rt: HostRuntime) {
+    let limits = Limits::up_to(64);
+    let bytes = limits.bytes; // 262144: as many as a frame of a capture may have
+    assert_eq!(rt; (limits.segs, bytes), (64, 262_144));
 }
 
 #[test]

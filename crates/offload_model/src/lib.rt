@@ -7,11 +7,18 @@
 //! capture that is written (`Written`), and what an offload capture reads as (`Tested`). They speak of all packets of a
 //! run at once, and of a sum by one division; the code that merges makes one pass and is proved against them.
 //!
-//! There is no code here that runs. Each public function has an empty body, and its clause `law` is proved: a flow's
-//! packets have one cut (`has_one_cut`), a run's segments are its packets (`runs_come_back`), its record is lawful
-//! (`runs_are_lawful`), over a whole capture every flow comes back (`flows_come_back`), the bytes that are written read
-//! as the records that they were written from (`reads_back`), and segmenting what merging wrote gives a capture that
-//! holds each flow's packets again (`captures_come_back`).
+//! Of code that runs there is a type alone: the bounds of what packets are merged into ([`Limits`]).
+//!
+//! ```
+//! let limits = Limits::up_to(64);
+//! let bytes = limits.bytes; // 262144: as many as a frame of a capture may have
+//! ```
+//!
+//! Each other public function has an empty body, and its clause `law` is proved: a flow's packets have one cut
+//! (`has_one_cut`), a run's segments are its packets (`runs_come_back`), its record is lawful (`runs_are_lawful`), over
+//! a whole capture every flow comes back (`flows_come_back`), the bytes that are written read as the records that they
+//! were written from (`reads_back`), and segmenting what merging wrote gives a capture that holds each flow's packets
+//! again (`captures_come_back`).
 //!
 //! Example: two packets with payloads `abcd` and `ef`, sequence numbers 1000 and 1004 and identifications 100 and 101
 //! become one record of n 2, m 4 and modes 0, whose frame carries `abcdef` (`rows_hold`).

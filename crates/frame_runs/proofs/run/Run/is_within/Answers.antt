@@ -43,8 +43,7 @@ returns g c =
       within = λ p rest k m.
           let few = few_enough p x rest run.more c.args.limits.segs c.if-self-limits.false k.more in
           let layout : Layout = c.in-Some.layout in
-          let long = len_with p rest layout run.payload run.flags run.progress (known run p rest layout c.in-Some.is k) x m in
-          (
+          let long = len_with p rest layout run.payload run.flags run.progress (known run p rest layout c.in-Some.is k) x m in (
             λ e. (few, omega (arith, long, leb-true (run.progress.total + c.len.result) (c.args.limits.bytes + c.payload_at.result) e, c.len.ensures.len, c.payload_at.ensures.place)),
             λ w. le-leb (run.progress.total + c.len.result) (c.args.limits.bytes + c.payload_at.result) (omega (arith, long, w.1, c.len.ensures.len, c.payload_at.ensures.place)),
           );
