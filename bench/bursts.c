@@ -37,7 +37,7 @@ int main(int words, char **word) {
     size_t length = fread(capture, 1, sizeof capture, stdin), at = 24, count = 0;
     struct offload_gro gro = {0};
     if (!(reads || keeps || joins || cuts || !strcmp(way, "merge"))) return 2;
-    uint32_t status = keeps ? offload_gro_new(&gro, BURST, BURST) : 0;
+    uint32_t status = keeps ? offload_gro_new(&gro, BURST, BURST, 0) : 0;
     while (status == 0 && at + 16 <= length) {
         size_t n = 0;
         for (uint32_t captured; n < BURST && at + 16 <= length; at += 16 + captured) {
@@ -47,7 +47,7 @@ int main(int words, char **word) {
             n++;
         }
         if (keeps) status = offload_gro_merge(&gro, frames, n, next, BURST, runs, BURST, &count);
-        else if (!reads) status = offload_gro_burst(BURST, frames, n, next, BURST, runs, BURST, &count);
+        else if (!reads) status = offload_gro_burst(BURST, 0, frames, n, next, BURST, runs, BURST, &count);
         for (size_t i = 0; (joins || cuts) && status == 0 && i < count; i++)
             if (runs[i].n > 1) {
                 join(&runs[i]);

@@ -81,7 +81,7 @@ int main(int count_of_words, char **words) {
     size_t all = find_frames(in, fread(in, 1, room, stdin), frames);
     for (size_t i = 0; i < all; i += budget) {
         size_t some = all - i < budget ? all - i : budget;
-        if (offload_gro_burst(4096, frames + i, some, next, budget, runs, budget, &count) != OFFLOAD_BURST_OK) return fail("a burst is merged");
+        if (offload_gro_burst(4096, 0, frames + i, some, next, budget, runs, budget, &count) != OFFLOAD_BURST_OK) return fail("a burst is merged");
         for (size_t j = 0; j < count; j++)
             if (runs[j].n > 1 && cut(merged, &runs[j], frames + i, next)) return 1;
     }

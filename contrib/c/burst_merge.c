@@ -68,7 +68,7 @@ static uint32_t merge(const char *how, struct offload_gro *gro, uint32_t segs, c
                       struct offload_run *runs, size_t room, size_t *count) {
     uint32_t status = OFFLOAD_BURST_OK;
     if (!strcmp(how, "engine")) return offload_gro_merge(gro, frames, some, next, room, runs, room, count);
-    if (strcmp(how, "frames")) return offload_gro_burst(segs, frames, some, next, room, runs, room, count);
+    if (strcmp(how, "frames")) return offload_gro_burst(segs, 0, frames, some, next, room, runs, room, count);
     *count = 0;
     for (size_t i = 0; i < some && status == OFFLOAD_BURST_OK; i++) status = offload_gro_receive(gro, frames, i + 1);
     return status == OFFLOAD_BURST_OK ? offload_gro_flush(gro, frames, some, next, room, runs, room, count) : status;
@@ -85,7 +85,7 @@ int main(int count_of_words, char **words) {
     struct offload_frame *frames = room_for(length / 16, sizeof *frames);
     struct stamp *stamps = room_for(length / 16, sizeof *stamps);
     struct offload_run *runs = room_for(budget, sizeof *runs);
-    uint32_t *next = room_for(budget, sizeof *next), status = offload_gro_new(&gro, (uint32_t)budget, segs);
+    uint32_t *next = room_for(budget, sizeof *next), status = offload_gro_new(&gro, (uint32_t)budget, segs, 0);
     size_t all = find_frames(in, length, frames, stamps);
     memcpy(in + 16, &snap, sizeof snap);
     memcpy(in + 20, &link, sizeof link);

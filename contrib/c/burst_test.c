@@ -69,13 +69,15 @@ struct burst {
     uint32_t next[4];
     struct offload_run runs[4];
     size_t made;
+    uint32_t bytes;
 };
 
 static uint32_t call(struct burst *burst) {
     memset(burst->next, FILL, sizeof burst->next);
     memset(burst->runs, FILL, sizeof burst->runs);
     burst->made = 99;
-    return offload_gro_burst(burst->segs, burst->frames, burst->count, burst->next, burst->next_count, burst->runs, burst->runs_count, &burst->made);
+    return offload_gro_burst(burst->segs, burst->bytes, burst->frames, burst->count, burst->next, burst->next_count, burst->runs, burst->runs_count,
+                             &burst->made);
 }
 
 static int is_filled(const void *from, size_t length) {
@@ -92,12 +94,18 @@ static void refused(struct burst burst, uint32_t status, const char *what) {
 
 static void numbers(struct offload_frame *two, const uint8_t *long_frame) {
     struct offload_frame many[2] = {two[0], two[1]};
-    const struct burst lawful = {4096, many, 2, 4, 4, {0}, {{0}}, 0};
+    const struct burst lawful = {4096, many, 2, 4, 4, {0}, {{0}}, 0, 0};
     struct burst burst = lawful;
     check(call(&burst) == OFFLOAD_BURST_OK && burst.made == 1, "two frames are one run");
     check(burst.runs[0].first == 0 && burst.runs[0].n == 2 && burst.runs[0].m == 100 && burst.runs[0].length == 204, "and its numbers");
     check(burst.runs[0].headers_length == HEADERS && burst.runs[0].kind == 1 && burst.runs[0].modes == 0 && burst.next[0] == 1, "and its headers");
     check(burst.runs[0].ip_at == 14 && burst.runs[0].leaf_at == 34 && burst.runs[0].leaf == 6, "and where its last headers stand");
+    burst = lawful, burst.bytes = 204;
+    check(call(&burst) == OFFLOAD_BURST_OK && burst.made == 1 && burst.runs[0].length == 204, "a merged frame as long as it may be");
+    burst.bytes = 203;
+    check(call(&burst) == OFFLOAD_BURST_OK && burst.made == 2 && burst.runs[0].n == 1 && burst.runs[1].first == 1, "a byte more than it may have");
+    burst.bytes = 0xffffffff;
+    check(call(&burst) == OFFLOAD_BURST_OK && burst.made == 1, "a bound that no frame passes");
     check(is_filled(&burst.runs[1], 3 * sizeof *burst.runs) && is_filled(burst.next + 2, 8), "what is behind the frames isn't touched");
     uint8_t whole[204];
     put_frame(whole, 1000, 5, 150);
@@ -144,7 +152,7 @@ static void without_ethernet(const struct offload_frame *two) {
         check(offload_put_ethernet(bytes[i], two[i].length) == OFFLOAD_BURST_OK, "a header before IPv4");
         check(!memcmp(bytes[i], before_ip4, 14) && !memcmp(bytes[i] + 14, two[i].bytes + 14, two[i].length - 14), "and nothing else");
     }
-    struct burst burst = {64, both, 2, 4, 4, {0}, {{0}}, 0}, other = {64, (struct offload_frame *)two, 2, 4, 4, {0}, {{0}}, 0};
+    struct burst burst = {64, both, 2, 4, 4, {0}, {{0}}, 0, 0}, other = {64, (struct offload_frame *)two, 2, 4, 4, {0}, {{0}}, 0, 0};
     check(call(&burst) == OFFLOAD_BURST_OK && call(&other) == OFFLOAD_BURST_OK && burst.made == 1, "two packets are one run");
     check(!memcmp(burst.runs[0].headers, before_ip4, 14) && !memcmp(burst.runs[0].headers + 14, other.runs[0].headers + 14, HEADERS - 14),
           "which has their headers behind it");
@@ -165,13 +173,13 @@ static void many_frames(const struct offload_frame *one) {
     size_t made = 99;
     if (!frames || !runs || !next) exit(OFFLOAD_BURST_NO_MEMORY);
     for (uint32_t i = 0; i < 65536; i++) frames[i] = *one, frames[i].number = i;
-    check(offload_gro_burst(64, frames, 65536, next, 65536, runs, 65536, &made) == OFFLOAD_BURST_USAGE && made == 0, "65,536 frames");
-    check(offload_gro_burst(64, frames, 65535, next, 65536, runs, 65536, &made) == OFFLOAD_BURST_OK && made == 65535, "65,535 frames");
+    check(offload_gro_burst(64, 0, frames, 65536, next, 65536, runs, 65536, &made) == OFFLOAD_BURST_USAGE && made == 0, "65,536 frames");
+    check(offload_gro_burst(64, 0, frames, 65535, next, 65536, runs, 65536, &made) == OFFLOAD_BURST_OK && made == 65535, "65,535 frames");
     free(frames), free(runs), free(next);
 }
 
 static void without_memory(struct offload_frame *two) {
-    struct burst burst = {64, two, 2, 4, 4, {0}, {{0}}, 0};
+    struct burst burst = {64, two, 2, 4, 4, {0}, {{0}}, 0, 0};
     int refusals = 0;
     for (uint32_t told = OFFLOAD_BURST_NO_MEMORY; told != OFFLOAD_BURST_OK && refusals < 100; refusals++) {
         left = refusals;
@@ -189,7 +197,7 @@ static void without_memory(struct offload_frame *two) {
 static void random_pairs(struct offload_frame *two, long pairs) {
     uint8_t bytes[154] = {0};
     struct offload_frame both[2] = {two[0], {bytes, 0, 0, 1}};
-    struct burst burst = {64, both, 2, 4, 4, {0}, {{0}}, 0};
+    struct burst burst = {64, both, 2, 4, 4, {0}, {{0}}, 0, 0};
     long merged = 0;
     srand(1);
     for (long i = 0; i < pairs; i++) {
@@ -218,7 +226,7 @@ static void *worker(void *failed) {
     uint32_t next[FRAMES];
     size_t made;
     for (int i = 0; i < TIMES; i++) {
-        uint32_t told = offload_gro_burst(64, sent, FRAMES, next, FRAMES, runs, FRAMES, &made);
+        uint32_t told = offload_gro_burst(64, 0, sent, FRAMES, next, FRAMES, runs, FRAMES, &made);
         if (told != OFFLOAD_BURST_OK || made != wanted_count || memcmp(runs, wanted, sizeof wanted)) *(int *)failed = 1;
     }
     free(runs);
@@ -234,7 +242,7 @@ static void threads(void) {
         if (i % 2) bytes_of[i][0] = 4, bytes_of[i][5] = 9;
         sent[i] = (struct offload_frame){bytes_of[i], length, (uint32_t)length, i};
     }
-    check(offload_gro_burst(64, sent, FRAMES, next, FRAMES, wanted, FRAMES, &wanted_count) == OFFLOAD_BURST_OK, "a burst of 200");
+    check(offload_gro_burst(64, 0, sent, FRAMES, next, FRAMES, wanted, FRAMES, &wanted_count) == OFFLOAD_BURST_OK, "a burst of 200");
     for (int i = 0; i < 4; i++)
         if (pthread_create(&thread[i], NULL, worker, &failed[i])) exit(1);
     for (int i = 0; i < 4; i++) {
@@ -284,11 +292,11 @@ static void no_engine(struct burst lawful) {
     check(offload_gro_receive(&gro, lawful.frames, 1) == OFFLOAD_BURST_USAGE, "nothing is received without an engine");
     not_made(&gro, 0, lawful, OFFLOAD_BURST_USAGE, "nothing is merged without an engine");
     not_made(&gro, 1, lawful, OFFLOAD_BURST_USAGE, "nothing is flushed without an engine");
-    check(offload_gro_new(&gro, 65536, 64) == OFFLOAD_BURST_USAGE && !gro.made, "an engine for 65,536 frames");
-    check(offload_gro_new(&gro, 4, 0) == OFFLOAD_BURST_USAGE && !gro.made, "an engine for runs of 0");
-    check(offload_gro_new(&gro, 4, 4097) == OFFLOAD_BURST_USAGE && !gro.made, "an engine for runs of 4097");
-    check(offload_gro_new(&gro, 65535, 4096) == OFFLOAD_BURST_OK && gro.made, "an engine for 65,535 frames");
-    check(offload_gro_new(&gro, 4, 64) == OFFLOAD_BURST_USAGE && gro.made, "an engine in the place of one");
+    check(offload_gro_new(&gro, 65536, 64, 0) == OFFLOAD_BURST_USAGE && !gro.made, "an engine for 65,536 frames");
+    check(offload_gro_new(&gro, 4, 0, 0) == OFFLOAD_BURST_USAGE && !gro.made, "an engine for runs of 0");
+    check(offload_gro_new(&gro, 4, 4097, 0) == OFFLOAD_BURST_USAGE && !gro.made, "an engine for runs of 4097");
+    check(offload_gro_new(&gro, 65535, 4096, 0) == OFFLOAD_BURST_OK && gro.made, "an engine for 65,535 frames");
+    check(offload_gro_new(&gro, 4, 64, 0) == OFFLOAD_BURST_USAGE && gro.made, "an engine in the place of one");
     offload_gro_free(&gro);
     check(!gro.made && !gro.at, "an engine that was ended");
 }
@@ -298,10 +306,10 @@ static void engines(struct offload_frame *two) {
     third.number = 2;
     memcpy(three, two, 2 * sizeof *two);
     three[2] = third;
-    struct burst burst = {64, two, 2, 4, 4, {0}, {{0}}, 0}, long_one = {64, three, 3, 4, 4, {0}, {{0}}, 0};
+    struct burst burst = {64, two, 2, 4, 4, {0}, {{0}}, 0, 0}, long_one = {64, three, 3, 4, 4, {0}, {{0}}, 0, 0};
     struct offload_gro gro = {0};
     no_engine(burst);
-    check(offload_gro_new(&gro, 2, 64) == OFFLOAD_BURST_OK, "an engine");
+    check(offload_gro_new(&gro, 2, 64, 0) == OFFLOAD_BURST_OK, "an engine");
     for (int i = 0; i < 3; i++) is_as_burst(made_by(&gro, 0, &burst), burst, "a burst by an engine");
     not_made(&gro, 0, long_one, OFFLOAD_BURST_FULL, "a longer burst than the engine was made for");
     for (int i = 0; i < 3; i++) {
@@ -324,7 +332,7 @@ static void engines(struct offload_frame *two) {
     for (uint32_t refusals = 0, told = OFFLOAD_BURST_NO_MEMORY; told != OFFLOAD_BURST_OK; refusals++) {
         offload_gro_free(&gro);
         left = refusals;
-        told = offload_gro_new(&gro, 64, 64);
+        told = offload_gro_new(&gro, 64, 64, 0);
         left = -1;
         check(told == OFFLOAD_BURST_OK || (told == OFFLOAD_BURST_NO_MEMORY && !gro.made), "an engine without memory");
     }
@@ -347,7 +355,7 @@ static void *flusher(void *failed) {
 static void handed_over(void) {
     pthread_t thread;
     int failed = 1;
-    check(offload_gro_new(&handed, FRAMES, 64) == OFFLOAD_BURST_OK, "an engine for 200");
+    check(offload_gro_new(&handed, FRAMES, 64, 0) == OFFLOAD_BURST_OK, "an engine for 200");
     for (size_t i = 7; i < FRAMES; i += 7) check(offload_gro_receive(&handed, sent, i) == OFFLOAD_BURST_OK, "seven frames more");
     check(offload_gro_receive(&handed, sent, FRAMES) == OFFLOAD_BURST_OK, "all frames");
     if (pthread_create(&thread, NULL, flusher, &failed)) exit(1);

@@ -65,13 +65,13 @@ struct offload_run {
     uint8_t headers[200];    /* what is behind the first headers_length bytes is left as it was, or of any value */
 };
 
-/* Merges at most 65,535 frames where they lie, into runs of at most `segs` (1 to 4096). `next` and `runs` have room for as many entries as
- * there are frames.
+/* Merges at most 65,535 frames where they lie, into runs of at most `segs` (1 to 4096) whose merged frame has at most `bytes`, as a device may
+ * want it: 65,535 with its headers, say. 0 is no bound but a frame's own. `next` and `runs` have room for as many entries as there are frames.
  *
  * On OFFLOAD_BURST_OK the runs are the maximal mergeable runs of each flow, in the order of their first frames; each frame is in one run,
  * once; and cutting a merged frame into its n segments gives its frames back, byte for byte and in order. */
-uint32_t offload_gro_burst(uint32_t segs, const struct offload_frame *frames, size_t frames_count, uint32_t *next, size_t next_count,
-                           struct offload_run *runs, size_t runs_count, size_t *count);
+uint32_t offload_gro_burst(uint32_t segs, uint32_t bytes, const struct offload_frame *frames, size_t frames_count, uint32_t *next,
+                           size_t next_count, struct offload_run *runs, size_t runs_count, size_t *count);
 
 /* An engine, or none where it is all zeros. Its members are the library's own. */
 struct offload_gro {
@@ -79,9 +79,9 @@ struct offload_gro {
     uint8_t made;
 };
 
-/* An engine for at most `frames` (0 to 65,535) between two flushes, in runs of at most `segs` (1 to 4096), where there is none yet. All memory
- * that it takes it takes here: some 2,700 bytes and 200 a frame. 0, USAGE or NO_MEMORY. */
-uint32_t offload_gro_new(struct offload_gro *gro, uint32_t frames, uint32_t segs);
+/* An engine for at most `frames` (0 to 65,535) between two flushes, in runs of at most `segs` and `bytes`, as by offload_gro_burst, where there
+ * is none yet. All memory that it takes it takes here: some 2,700 bytes and 200 a frame. 0, USAGE or NO_MEMORY. */
+uint32_t offload_gro_new(struct offload_gro *gro, uint32_t frames, uint32_t segs, uint32_t bytes);
 
 /* A burst as by offload_gro_burst, by the memory of an engine that has received nothing since its last flush: the call for who merges burst after
  * burst. Also FULL; USAGE where there is no engine, or it has received frames. */

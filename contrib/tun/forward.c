@@ -168,7 +168,7 @@ int main(int count_of_words, char **words) {
     is_cutting = !strcmp(words[5], "cut"), is_merging = is_cutting || !strcmp(words[5], "merged");
     front = !strcmp(words[6], "tun") ? ETHERNET : 0;
     int devices[2] = {open_device(words[1], words[2]), open_device(words[3], words[4])};
-    if (offload_gro_new(&gro, BURST, BURST) != OFFLOAD_BURST_OK) return 1;
+    if (offload_gro_new(&gro, BURST, BURST, 0) != OFFLOAD_BURST_OK) return 1;
     signal(SIGTERM, stop), signal(SIGINT, stop);
     while (!is_over) {
         struct pollfd readable[2] = {{devices[0], POLLIN, 0}, {devices[1], POLLIN, 0}};

@@ -13,13 +13,13 @@ use Rattle.pcap_io.specs.Capture.{Packet}
 use Rattle.offload_model.specs.Captured.{IsCaptured}
 use Rattle.offload_model.specs.Mergeable.{IsMergeable}
 use Rattle.offload_model.specs.Merged.{Merged}
-use Rattle.offload_model.specs.Rounds.{runs_in}
+use Rattle.offload_model.specs.Rounds.{runs_within}
 use Rattle.offload_model.proofs.Flows.{IsItem, all_items}
 use Rattle.offload_model.proofs.Lists.{all_of}
 use Rattle.offload_model.proofs.Records.{merged_of_is, merged_run, IsMergedRun}
 use Rattle.frame_bursts.specs.Burst.{frames_of, Says}
 use Rattle.frame_bursts.specs.declared.told.BurstRun.{BurstRun}
-use Rattle.frame_bursts.proofs.Saying.{items_in}
+use Rattle.offload_model.proofs.Items.{within_are}
 use Rattle.burst_c.specs.Inverse.{EthernetStays, HasItsEthernet}
 
 -- a shape begins with an Ethernet header
@@ -68,6 +68,6 @@ all_begin F [] says items = tt
 all_begin F (r ∷ told) says items = (begins_in r (F r) says.0 items.0, all_begin F told says.1 items.1)
 
 pub ethernet_stays : EthernetStays
-ethernet_stays segs ps next told c m =
+ethernet_stays limits ps next told c m =
     all_begin (frames_of ps next) told m.each
-    (subst (AllByRecursion IsItem) (sym m.runs) (all_items ps (runs_in segs ps) c.each (items_in segs ps c)))
+    (subst (AllByRecursion IsItem) (sym m.runs) (all_items ps (runs_within limits ps) c.each (within_are limits ps c.rising)))

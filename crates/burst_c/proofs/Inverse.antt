@@ -11,14 +11,14 @@ use Rattle.pcap_io.specs.Capture.{Packet}
 use Rattle.offload_model.specs.Captured.{IsCaptured}
 use Rattle.offload_model.specs.Mergeable.{IsMergeable}
 use Rattle.offload_model.specs.Merged.{Merged, merged_of}
-use Rattle.offload_model.specs.Rounds.{runs_in}
+use Rattle.offload_model.specs.Rounds.{runs_within}
 use Rattle.offload_model.specs.Segments.{frames_of as segments_in, merged_in, with_frame, IsCuttable}
 use Rattle.offload_model.proofs.Flows.{IsItem, all_items}
 use Rattle.offload_model.proofs.Lists.{all_of}
 use Rattle.offload_model.proofs.Records.{merged_of_is, merged_run, IsMergedRun}
 use Rattle.frame_bursts.specs.Burst.{frames_of, Says}
 use Rattle.frame_bursts.specs.declared.told.BurstRun.{BurstRun}
-use Rattle.frame_bursts.proofs.Saying.{items_in}
+use Rattle.offload_model.proofs.Items.{within_are}
 use Rattle.frame_cuts.specs.Cuts.{bytes_of, cut_head, whole, Cuts}
 use Rattle.frame_cuts.specs.declared.cut.CutSegment.{CutSegment}
 use Rattle.burst_c.specs.Inverse.{merged_frame, ComesApart, MergedComesApart}
@@ -144,6 +144,6 @@ all_apart F [] says items = tt
 all_apart F (r ∷ told) says items = (comes_apart r (F r) says.0 items.0, all_apart F told says.1 items.1)
 
 pub merged_comes_apart : MergedComesApart
-merged_comes_apart segs ps next told c m =
+merged_comes_apart limits ps next told c m =
     all_apart (frames_of ps next) told m.each
-    (subst (AllByRecursion IsItem) (sym m.runs) (all_items ps (runs_in segs ps) c.each (items_in segs ps c)))
+    (subst (AllByRecursion IsItem) (sym m.runs) (all_items ps (runs_within limits ps) c.each (within_are limits ps c.rising)))

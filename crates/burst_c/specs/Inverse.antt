@@ -4,6 +4,7 @@ use Rattle.std.specs.List.{AllByRecursion}
 use Rattle.net_bytes.specs.Bytes.{byte}
 use Rattle.pcap_io.specs.Capture.{Packet}
 use Rattle.offload_model.specs.Captured.{AreCaptured}
+use Rattle.offload_model.specs.declared.limits.Limits.{Limits}
 use Rattle.offload_model.specs.Merged.{frame_at, merged_of}
 use Rattle.offload_model.specs.Segments.{IsLawfulSuper}
 use Rattle.frame_bursts.specs.Burst.{frames_of, Merges}
@@ -25,9 +26,9 @@ pub record ComesApart (r : BurstRun) (run : List Packet) : Type 0 where
 -- each merged frame of a burst
 abbrev pub MergedComesApart : Type 0
 MergedComesApart =
-    (segs : ℕ) (ps : List Packet) (next : List ℕ) (told : List BurstRun)
+    (limits : Limits) (ps : List Packet) (next : List ℕ) (told : List BurstRun)
     → AreCaptured ps
-    → Merges segs ps next told
+    → Merges limits ps next told
     → AllByRecursion (λ r. 2 ≤ r.n → ComesApart r (frames_of ps next r)) told
 
 -- the merged frame of a run begins with the 14 bytes that its first frame begins with
@@ -37,7 +38,7 @@ HasItsEthernet run = (k : ℕ) → k < 14 → byte (merged_frame run) k ≡ byte
 -- so that of each run of a burst
 abbrev pub EthernetStays : Type 0
 EthernetStays =
-    (segs : ℕ) (ps : List Packet) (next : List ℕ) (told : List BurstRun)
+    (limits : Limits) (ps : List Packet) (next : List ℕ) (told : List BurstRun)
     → AreCaptured ps
-    → Merges segs ps next told
+    → Merges limits ps next told
     → AllByRecursion (λ r. 2 ≤ r.n → HasItsEthernet (frames_of ps next r)) told

@@ -1,3 +1,4 @@
+pub mod Bounds
 pub mod Causes
 pub mod Cutting
 pub mod Front

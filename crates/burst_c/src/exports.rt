@@ -3,13 +3,16 @@ ghost use Rattle.std.specs.Prelude.{◌≡◌, ◌↔◌, ◌≤◌, ◌⊎◌, 
 ghost use Rattle.std.specs.List.{AllByRecursion};
 ghost use Rattle.frame_runs.specs.Lent.{packet_of};
 ghost use Rattle.frame_bursts.specs.Burst.{AreLawful, HasRoom, Merges, ComesBack, frames_of};
+ghost use Rattle.burst_c.specs.Bounds.{limits_for};
 
 use crate::codes::{OK, code_of};
+use crate::limits::limits_of;
 use frame_bursts::{BurstRun, merge_burst};
 use frame_runs::Lent;
 use std::alloc::Global;
 
-/// Merges frames where they lie, into runs of at most `segs` (1 to 4096).
+/// Merges frames where they lie, into runs of at most `segs` (1 to 4096), whose merged frame has at most `bytes`; 0 is
+/// no bound.
 ///
 /// 0: the first `count` of `runs` are what the frames come to, in the order of their first frames, and `next` leads
 /// from each frame of a run to the one behind it. 2: a number or a frame isn't as it has to be: a frame is longer than
@@ -20,16 +23,18 @@ use std::alloc::Global;
 pub extern "C" fn offload_gro_burst(
     alloc: Global,
     segs: u32,
+    bytes: u32,
     frames: &[Lent<'_>],
     next: &mut [u32],
     runs: &mut [BurstRun],
     count: &mut usize,
 ) -> u32
-    ensures merges { result ≡ 0 → Merges segs (map packet_of frames.now) next.new (take count.new runs.new) }
+    ensures merges { result ≡ 0 → Merges (limits_for segs bytes) (map packet_of frames.now) next.new
+        (take count.new runs.new) }
     ensures back { result ≡ 0 → AllByRecursion
         (λ r. ComesBack (frames_of (map packet_of frames.now) next.new r)) (take count.new runs.new) }
-    ensures usage { (result ≡ 2) ↔ (AreLawful segs frames.now → ⊥) }
-    ensures room { (result ≡ 9) ↔ (AreLawful segs frames.now
+    ensures usage { (result ≡ 2) ↔ (AreLawful (limits_for segs bytes) frames.now → ⊥) }
+    ensures room { (result ≡ 9) ↔ (AreLawful (limits_for segs bytes) frames.now
         × (HasRoom (length frames.now) (length next.old) (length runs.old) → ⊥)) }
     ensures codes { (result ≡ 0) ⊎ ((result ≡ 2) ⊎ ((result ≡ 7) ⊎ (result ≡ 9))) }
     ensures untouched { (result ≡ 2) ⊎ ((result ≡ 7) ⊎ (result ≡ 9))
@@ -37,7 +42,7 @@ pub extern "C" fn offload_gro_burst(
     ensures sizes { (length next.new ≡ length next.old) × (length runs.new ≡ length runs.old) }
 {
     *count = 0;
-    match merge_burst(alloc, segs, frames, next, runs) {
+    match merge_burst(alloc, limits_of(segs, bytes), frames, next, runs) {
         Ok(n) => {
             *count = n;
             OK

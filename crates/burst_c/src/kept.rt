@@ -6,10 +6,12 @@ ghost use Rattle.frame_runs.specs.Lent.{packet_of};
 ghost use Rattle.frame_bursts.specs.Burst.{ComesBack, Merges, frames_of};
 ghost use Rattle.frame_bursts.specs.Kept.{Holds, HoldsAll, HoldsFront, IsFor};
 ghost use Rattle.frame_bursts.specs.Kept.{RefusesBurst, RefusesFlush, RefusesMaking, RefusesMore};
+ghost use Rattle.burst_c.specs.Bounds.{limits_for};
 ghost use Rattle.burst_c.specs.Made.{is_made, Answers, AllStays, HasEngine, HaveSameNumbers, RefusesBy};
 
 use crate::codes::{NO_MEMORY, OK, USAGE, code_of};
 use crate::handle::Handle;
+use crate::limits::limits_of;
 use core::mem::replace_with;
 use frame_bursts::{BurstEngine, BurstRun};
 use frame_runs::Lent;
@@ -49,21 +51,28 @@ fn put(kept: Kept, own: Box<BurstEngine, Global>) -> (Kept, ())
     (Kept { engine, made: true }, ())
 }
 
-/// An engine for at most `frames` (0 to 65,535) between two flushes, in runs of at most `segs` (1 to 4096), where there
-/// is none yet. All memory that it takes it takes here.
+/// An engine for at most `frames` (0 to 65,535) between two flushes, in runs of at most `segs` (1 to 4096) whose merged
+/// frame has at most `bytes`, 0 being no bound, where there is none yet. All memory that it takes it takes here.
 ///
 /// 0; 2: a number isn't as it has to be, or there is one already; 7: there was no memory. But for 0 all is as it was.
 #[unsafe(no_mangle)]
-pub extern "C" fn offload_gro_new(alloc: Global, gro: &mut Kept, frames: u32, segs: u32) -> u32
-    ensures made { result ≡ 0 → HasEngine (λ g. Holds [] g × IsFor frames segs g) gro.new.engine.value }
-    ensures refused { gro.old.engine.value ≡ None → Answers (RefusesMaking frames segs) result }
+pub extern "C" fn offload_gro_new(
+    alloc: Global,
+    gro: &mut Kept,
+    frames: u32,
+    segs: u32,
+    bytes: u32,
+) -> u32
+    ensures made { result ≡ 0
+        → HasEngine (λ g. Holds [] g × IsFor frames (limits_for segs bytes) g) gro.new.engine.value }
+    ensures refused { gro.old.engine.value ≡ None → Answers (RefusesMaking frames (limits_for segs bytes)) result }
     ensures alone { (result ≡ 0) → gro.old.engine.value ≡ None }
     ensures untouched { (result ≡ 0) ⊎ (gro.new.engine.value ≡ gro.old.engine.value) }
 {
     if gro.made {
         return USAGE;
     }
-    match BurstEngine::make(alloc, frames, segs) {
+    match BurstEngine::make(alloc, frames, limits_of(segs, bytes)) {
         Ok(engine) => {
             let Ok(own) = Box::new(alloc, engine) else {
                 return NO_MEMORY;
@@ -117,7 +126,7 @@ pub extern "C" fn offload_gro_flush(
     count: &mut usize,
 ) -> u32
     requires holds { IfSome gro.old.engine.value (HoldsAll frames.now) }
-    ensures merges { result ≡ 0 → HasEngine (λ g. Merges g.segs (map packet_of frames.now) next.new
+    ensures merges { result ≡ 0 → HasEngine (λ g. Merges g.limits (map packet_of frames.now) next.new
         (take count.new runs.new)) gro.old.engine.value }
     ensures back { result ≡ 0 → AllByRecursion
         (λ r. ComesBack (frames_of (map packet_of frames.now) next.new r)) (take count.new runs.new) }
@@ -161,7 +170,7 @@ pub extern "C" fn offload_gro_merge(
     runs: &mut [BurstRun],
     count: &mut usize,
 ) -> u32
-    ensures merges { result ≡ 0 → HasEngine (λ g. Merges g.segs (map packet_of frames.now) next.new
+    ensures merges { result ≡ 0 → HasEngine (λ g. Merges g.limits (map packet_of frames.now) next.new
         (take count.new runs.new)) gro.old.engine.value }
     ensures back { result ≡ 0 → AllByRecursion
         (λ r. ComesBack (frames_of (map packet_of frames.now) next.new r)) (take count.new runs.new) }

@@ -15,7 +15,8 @@
 //!
 //! Of engines, which [`offload_gro_new`] makes and [`offload_gro_free`] ends:
 //!
-//! - `made`: an engine that is made is for so many frames, in runs of so many, and has received none.
+//! - `made`: an engine that is made is for so many frames, in runs of so many and of so many bytes, and has received
+//!   none.
 //! - `merges`, `back` of [`offload_gro_merge`]: what a burst comes to, as of `offload_gro_burst`.
 //! - `received` of [`offload_gro_receive`], `merges`, `back` of [`offload_gro_flush`]: what a flush tells is what all
 //!   frames come to that were received since the last one, in however many calls. `none`: then it has received none.
@@ -42,10 +43,11 @@
 //! all).
 //!
 //! Its parts: `exports` (a burst), `kept` (engines), `handle` (an engine by its address), `cuts` (the inverse), `laws`
-//! (both together), `causes`, `front` (packets without an Ethernet header), `codes`. `specs/Made.antt` says what holds
-//! of an engine where there is one, `specs/Cutting.antt` what cutting answers, `specs/Inverse.antt` what comes of a
-//! merged frame that is cut, `specs/Causes.antt` the numbers of causes, `specs/Front.antt` the Ethernet headers that
-//! are written; what its address owns is `heap_owns_any` of `on_heap`.
+//! (both together), `causes`, `front` (packets without an Ethernet header), `limits` (two numbers), `codes`.
+//! `specs/Bounds.antt` says which limits two numbers are, `specs/Made.antt` what holds of an engine where there is one,
+//! `specs/Cutting.antt` what cutting answers, `specs/Inverse.antt` what comes of a merged frame that is cut,
+//! `specs/Causes.antt` the numbers of causes, `specs/Front.antt` the Ethernet headers that are written; what its address
+//! owns is `heap_owns_any` of `on_heap`.
 //!
 //! Tests: `contrib/c/burst_check`.
 //!
@@ -71,6 +73,7 @@ mod front;
 mod handle;
 mod kept;
 mod laws;
+mod limits;
 
 pub use causes::{offload_why, offload_why_apart};
 pub use cuts::{offload_fill_sums, offload_gso_burst};

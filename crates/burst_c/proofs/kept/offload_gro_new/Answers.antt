@@ -1,4 +1,5 @@
-use Rattle.std.proofs.Common.{inr, refl, arith}
+use Rattle.std.proofs.Common.{◌≤◌, ◌∙◌, inr, refl, subst, arith}
+use Rattle.offload_model.specs.declared.limits.Limits.{Limits}
 use Rattle.frame_bursts.specs.declared.burst.Refused.TheVariants.{NoMemory}
 use Rattle.burst_c.proofs.kept.offload_gro_new.Goals as goal
 
@@ -12,7 +13,7 @@ returns-in_default-clause-refused c = λ none.
         refl,
         (
           omega (arith, numbers.0, made.1.0),
-          (omega (arith, numbers.1.0, made.1.1), omega (arith, numbers.1.1, made.1.1)),
+          subst (λ (z : Limits). (1 ≤ z.segs) × (z.segs ≤ 4096)) (made.1.1 ∙ c.limits_of-arg.ensures.limits) numbers.1,
         ),
       ),
     )
