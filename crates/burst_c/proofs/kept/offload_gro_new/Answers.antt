@@ -13,7 +13,7 @@ returns-in_default-clause-refused c = λ none.
         refl,
         (
           omega (arith, numbers.0, made.1.0),
-          subst (λ (z : Limits). (1 ≤ z.segs) × (z.segs ≤ 4096)) (made.1.1 ∙ c.limits_of-arg.ensures.limits) numbers.1,
+          subst (λ (z : Limits). (1 ≤ z.segs) × (z.segs ≤ 4096)) (made.1.1 ∙ c.limits_of.ensures.limits) numbers.1,
         ),
       ),
     )
