@@ -10,6 +10,7 @@ use frame_runs::Engine;
 use gro::Packets;
 use lanes::Alone;
 use off_io::{Feed, MemSink, MemSource, NoGate};
+use offload_model::Limits;
 use pcap_io::{CaptureReader, Link};
 use pipeline::merge_beside;
 use rounds::{MergeEnd, RoundEnd, RoundRead, Rounds};
@@ -115,7 +116,7 @@ fn example_of_comparing(rt: &impl Abort, alloc: Global, second: &[u8], original:
     packets.push(packet(rt, alloc, &SECOND, 1));
     let mut engine = Engine::make(alloc, 2).expect(rt, "places");
     let slots = packets.slots();
-    engine.merge(slots, 2);
+    engine.merge(slots, Limits::up_to(2));
     assert!(rt; engine.runs.len() == 1);
     let mut kept = Vec::with_capacity(alloc, 2).expect(rt, "places");
     kept.push_reserved(clone_of(rt, alloc, &FIRST, 58, 0));

@@ -7,6 +7,7 @@ use super::rounds::{Place, head_of};
 use super::{freed_slot, plain, slot};
 use frame_runs::Engine;
 use gro::Slot;
+use offload_model::Limits;
 use std::alloc::Global;
 use std::process::Abort;
 
@@ -80,7 +81,7 @@ fn linked(
         append(rt, &mut slots, i as u32, slot);
     }
     let mut engine = Engine::make(alloc, places.len() as u32).expect(rt, "engine");
-    engine.merge(&slots, segs);
+    engine.merge(&slots, Limits::up_to(segs));
     assert!(rt; are_chains(&engine, rows));
     spent_slots(rt, alloc, slots);
 }
@@ -136,7 +137,8 @@ fn one_list_after_another(rt: HostRuntime) {
         append(&rt, &mut slots, 0, slot(&rt, alloc, 0, &first, &payload));
         append(&rt, &mut slots, 1, slot(&rt, alloc, 1, &next, &payload));
         engine.start(2).expect(&rt, "room");
-        engine.merge(&slots, if turn == 1 { 1 } else { 2 });
+        let segs = if turn == 1 { 1 } else { 2 };
+        engine.merge(&slots, Limits::up_to(segs));
         assert!(rt; is_chain(&engine, 0, if turn == 1 { &[0] } else { &[0, 1] }));
         spent_slots(&rt, alloc, slots);
     }
@@ -173,7 +175,7 @@ fn one_flow(rt: HostRuntime) {
         append(&rt, &mut slots, i, slot(&rt, alloc, i, &head, &payload));
     }
     let mut engine = Engine::make(alloc, 4096).expect(&rt, "engine");
-    engine.merge(&slots, 4096);
+    engine.merge(&slots, Limits::up_to(4096));
     assert!(rt; is_one_chain(&engine, 4096));
     spent_slots(&rt, alloc, slots);
 }

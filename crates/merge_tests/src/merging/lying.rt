@@ -11,6 +11,7 @@ use frags::Outcomes;
 use frame_runs::Engine;
 use gro::{Packets, Slot};
 use gro_table::Item;
+use offload_model::Limits;
 use pcap_io::OffHead2;
 use std::alloc::Global;
 use std::process::Abort;
@@ -211,7 +212,7 @@ fn what_runs_come_to(rt: HostRuntime) {
     let mut engine = Engine::new(alloc);
     engine.start(3).expect(&rt, "room");
     let slots = packets.slots();
-    engine.merge(slots, 4096);
+    engine.merge(slots, Limits::up_to(4096));
     assert!(rt; engine.runs.len() == 2);
     let merged = said_of(slots, &engine, 0);
     let (head, _, len, original) = said_of(slots, &engine, 1);

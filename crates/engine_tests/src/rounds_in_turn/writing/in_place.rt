@@ -12,6 +12,7 @@ use frame_runs::Engine;
 use gro::{Packets, Slot};
 use gro_table::{Item, Packet, RoundTable};
 use off_io::{MemSink, WriteFault};
+use offload_model::Limits;
 use raw_block::Sole;
 use records::write_runs;
 use skb::Skb;
@@ -140,7 +141,7 @@ fn runs_are_written_where_they_lie(rt: HostRuntime) {
     let packets = three(&rt, alloc);
     let slots = packets.slots();
     let mut engine = Engine::make(alloc, 3).expect(&rt, "engine");
-    engine.merge(slots, 4096);
+    engine.merge(slots, Limits::up_to(4096));
     let bytes = wanted(&rt, alloc);
     let sink = MemSink::new(alloc, 64, Vec::new(alloc));
     assert!(rt; is_written(slots, &engine, sink, (Ok(()), &bytes)));
