@@ -1,3 +1,5 @@
+mod Fields
+mod Framing
 mod Keeping
 mod Laying
 mod Placing

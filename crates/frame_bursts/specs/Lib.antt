@@ -1,3 +1,4 @@
 pub mod Burst
 pub mod Kept
+pub mod Links
 pub mod Places

@@ -69,11 +69,16 @@
 #![tactic(auto)]
 
 mod burst;
+mod ghost_bytes;
 mod kept;
 mod lawful;
+mod link;
 mod places;
+mod raw_frame;
 mod told;
 
 pub use burst::{Refused, merge_burst};
 pub use kept::BurstEngine;
+pub use link::Link;
+pub use raw_frame::RawFrame;
 pub use told::BurstRun;

@@ -1,0 +1,70 @@
+-- What packets begin with, and the frames that they are merged as.
+use Rattle.std.specs.Prelude.{◌≡◌, ℕ, ◌+◌, ◌-◌, ◌/◌, ◌≤◌, ◌==◌, if◌then◌else◌, List, [], ◌∷◌, ◌++◌, length, drop, take}
+use Rattle.net_bytes.specs.Bytes.{byte, bytes16}
+use Rattle.inet_sum.specs.Stands.{StandsFor}
+use Rattle.pcap_io.specs.Capture.{Packet}
+use Rattle.pcap_io.specs.Limits.{most_frame}
+use Rattle.frame_runs.specs.Frames.{AreBytes, IsFrontOf}
+use Rattle.frame_runs.specs.declared.lent.Lent.{Lent}
+use Rattle.frame_bursts.specs.declared.link.Link.{Link}
+use Rattle.frame_bursts.specs.declared.link.Link.TheVariants.{Ethernet, RawIp}
+use Rattle.frame_bursts.specs.declared.raw_frame.RawFrame.{RawFrame}
+
+-- the version of an IP packet (RFC 791, section 3.1; RFC 8200, section 3)
+abbrev pub version_of : List ℕ → ℕ
+version_of p = byte p 0 / 16
+
+-- the Ethernet type of what has this version: 0800 is IPv4 (RFC 894), 86dd is IPv6 (RFC 2464), and 0 is neither
+abbrev pub ether_type : ℕ → List ℕ
+ether_type version = if version == 4 then 0x08 ∷ 0x00 ∷ [] else (if version == 6 then 0x86 ∷ 0xdd ∷ [] else 0 ∷ 0 ∷ [])
+
+-- the Ethernet header for an IP packet: addresses of zeros, and the type
+abbrev pub ethernet_for : List ℕ → List ℕ
+ethernet_for p = 0 ∷ 0 ∷ 0 ∷ 0 ∷ 0 ∷ 0 ∷ 0 ∷ 0 ∷ 0 ∷ 0 ∷ 0 ∷ 0 ∷ ether_type (version_of p)
+
+-- a length in the frame, of one in the packet, which hasn't the 14 bytes of Ethernet
+abbrev pub in_frame : Link → ℕ → ℕ
+in_frame Ethernet n = n
+in_frame RawIp n = n + 14
+
+-- and a length in the packet, of one in the frame
+abbrev pub in_packet : Link → ℕ → ℕ
+in_packet Ethernet n = n
+in_packet RawIp n = n - 14
+
+abbrev pub bytes_in_packet : Link → List ℕ → List ℕ
+bytes_in_packet Ethernet frame = frame
+bytes_in_packet RawIp frame = drop 14 frame
+
+abbrev pub frame_on : Link → List ℕ → List ℕ
+frame_on Ethernet bytes = bytes
+frame_on RawIp bytes = ethernet_for bytes ++ bytes
+
+-- the frame that a packet is merged as
+abbrev pub framed : Link → Lent → Packet
+framed link l = record {
+  number = l.number;
+  sec = 0;
+  frac = 0;
+  original = in_frame link l.original;
+  frame = frame_on link l.bytes.now;
+}
+
+-- ---- a packet whose first bytes are copied behind an Ethernet header
+
+abbrev pub raw_packet : RawFrame → Packet
+raw_packet f = record {
+  number = f.number;
+  sec = 0;
+  frac = 0;
+  original = f.original;
+  frame = frame_on RawIp f.packet.bytes;
+}
+
+pub record IsHeld (f : RawFrame) : Type 0 where
+  pub front : IsFrontOf (take f.head_len f.head) (raw_packet f).frame
+  pub behind : StandsFor f.behind front.rest
+  pub inside : f.head_len ≤ 214
+  pub filled : length (take f.head_len f.head) ≡ f.head_len
+  pub short : f.head_len + f.behind.len ≤ most_frame
+  pub in_bytes : AreBytes (raw_packet f).frame
