@@ -15,12 +15,12 @@ use Rattle.maximal_runs.proofs.Pass.{all_append}
 use Rattle.pcap_io.specs.Capture.{Packet}
 use Rattle.pcap_io.specs.Limits.{most_frame}
 use Rattle.offload_model.specs.Captured.{AreCaptured, IsCaptured}
-use Rattle.frame_runs.specs.Frames.{AreBytes, IsFrontOf}
+use Rattle.frame_runs.specs.Frames.{AreBytes}
 use Rattle.frame_runs.specs.declared.lent.Lent.{Lent}
 use Rattle.frame_bursts.specs.declared.raw_frame.RawFrame.{RawFrame}
 use Rattle.frame_bursts.specs.declared.link.Link.{Link}
-use Rattle.frame_bursts.specs.declared.link.Link.TheVariants.{RawIp}
-use Rattle.frame_bursts.specs.Links.{ether_type, ethernet_for, framed, raw_packet, version_of, IsHeld}
+use Rattle.frame_bursts.specs.declared.link.Link.TheVariants.{Ethernet, RawIp}
+use Rattle.frame_bursts.specs.Links.{ether_type, ethernet_for, frame_on, framed, in_frame, raw_packet, version_of, IsHeld}
 
 type_size : (a b : Bool) → length {A = ℕ} (if a then 8 ∷ 0 ∷ [] else (if b then 134 ∷ 221 ∷ [] else 0 ∷ 0 ∷ [])) ≡ 2
 type_size true b = refl
@@ -50,40 +50,40 @@ copied_few long n most e m = elim (cases_lt long 200) [
 module _ (f : RawFrame) (p : List ℕ) (n : ℕ) (is : f.packet.bytes ≡ p) (len : f.head_len ≡ n + 14)
     (few : n ≡ min (length p) 200) (head : take (n + 14) f.head ≡ ethernet_for p ++ take n p)
   where
-  first : take f.head_len f.head ≡ ethernet_for p ++ take n p
-  first = ap (λ (z : ℕ). take z f.head) len ∙ head
+    first : take f.head_len f.head ≡ ethernet_for p ++ take n p
+    first = ap (λ (z : ℕ). take z f.head) len ∙ head
 
-  inside : n ≤ length p
-  inside = omega (arith, few, min-le_left (length p) 200)
+    inside : n ≤ length p
+    inside = omega (arith, few, min-le_left (length p) 200)
 
-  long : length (take f.head_len f.head) ≡ n + 14
-  long =
-      ap length first
-      ∙ (let e : length (ethernet_for p ++ take n p) ≡ n + 14
-      = omega (arith, length-append (ethernet_for p) (take n p), ethernet_size p, length-take-le n p inside) in e)
+    long : length (take f.head_len f.head) ≡ n + 14
+    long =
+        ap length first
+        ∙ (let e : length (ethernet_for p ++ take n p) ≡ n + 14
+        = omega (arith, length-append (ethernet_for p) (take n p), ethernet_size p, length-take-le n p inside) in e)
 
-  whole : length (raw_packet f).frame ≡ length p + 14
-  whole =
-      ap (λ (z : List ℕ). length (ethernet_for z ++ z)) is
-      ∙ (let e : length (ethernet_for p ++ p) ≡ length p + 14
-      = omega (arith, length-append (ethernet_for p) p, ethernet_size p) in e)
+    whole : length (raw_packet f).frame ≡ length p + 14
+    whole =
+        ap (λ (z : List ℕ). length (ethernet_for z ++ z)) is
+        ∙ (let e : length (ethernet_for p ++ p) ≡ length p + 14
+        = omega (arith, length-append (ethernet_for p) p, ethernet_size p) in e)
 
-  pub held_by : StandsFor f.behind (drop n p) → length p + 14 ≤ most_frame → AreBytes (ethernet_for p ++ p) → IsHeld f
-  held_by sum short bytes = record {
-    front = record {
-      rest = drop n p;
-      joined = ap (λ (z : List ℕ). ethernet_for z ++ z) is
-          ∙ ap (λ (z : List ℕ). ethernet_for p ++ z) (sym (take-append-drop n p))
-          ∙ sym (append_assoc (ethernet_for p) (take n p) (drop n p))
-          ∙ ap (λ (z : List ℕ). z ++ drop n p) (sym first);
-      enough = omega (arith, long, copied_few (length p) n _ few (ap (λ (z : ℕ). min z 200) whole));
-    };
-    behind = sum;
-    inside = omega (arith, len, few, min-le_right (length p) 200);
-    filled = long ∙ sym len;
-    short = omega (arith, len, sum.1, length-drop n p, inside, short);
-    in_bytes = subst (λ (z : List ℕ). AreBytes (ethernet_for z ++ z)) (sym is) bytes;
-  }
+    pub held_by : StandsFor f.behind (drop n p) → length p + 14 ≤ most_frame → AreBytes (ethernet_for p ++ p) → IsHeld f
+    held_by sum short bytes = record {
+      front = record {
+        rest = drop n p;
+        joined = ap (λ (z : List ℕ). ethernet_for z ++ z) is
+            ∙ ap (λ (z : List ℕ). ethernet_for p ++ z) (sym (take-append-drop n p))
+            ∙ sym (append_assoc (ethernet_for p) (take n p) (drop n p))
+            ∙ ap (λ (z : List ℕ). z ++ drop n p) (sym first);
+        enough = omega (arith, long, copied_few (length p) n _ few (ap (λ (z : ℕ). min z 200) whole));
+      };
+      behind = sum;
+      inside = omega (arith, len, few, min-le_right (length p) 200);
+      filled = long ∙ sym len;
+      short = omega (arith, len, sum.1, length-drop n p, inside, short);
+      in_bytes = subst (λ (z : List ℕ). AreBytes (ethernet_for z ++ z)) (sym is) bytes;
+    }
 
 -- ---- what is read of it
 
@@ -139,3 +139,32 @@ captured_at link ls i l all inside is = at ls i all.each inside is
 pub all_more : (fs gs : List RawFrame) (x : RawFrame) → gs ≡ fs ++ (x ∷ []) → AllByRecursion IsHeld fs → IsHeld x
     → AllByRecursion IsHeld gs
 all_more fs gs x new all one = subst (AllByRecursion IsHeld) (sym new) (all_append IsHeld fs (x ∷ []) all (one, tt))
+
+-- ---- what a frame has, of what the packet has
+
+pub size_on : (link : Link) (p : List ℕ) → length (frame_on link p) ≡ in_frame link (length p)
+size_on Ethernet p = refl
+size_on RawIp p = omega (arith, length-append (ethernet_for p) p, ethernet_size p)
+
+one_byte : (x : ℕ) (f : List ℕ) → x < 256 → AreBytes f → AreBytes (x ∷ f)
+one_byte x f low all zero = low
+one_byte x f low all (suc k) = all k
+
+type_bytes : (a b : Bool) (f : List ℕ) → AreBytes f
+    → AreBytes ((if a then 8 ∷ 0 ∷ [] else (if b then 134 ∷ 221 ∷ [] else 0 ∷ 0 ∷ [])) ++ f)
+type_bytes true b f all = one_byte 8 (0 ∷ f) (omega arith) (one_byte 0 f (omega arith) all)
+type_bytes false true f all = one_byte 134 (221 ∷ f) (omega arith) (one_byte 221 f (omega arith) all)
+type_bytes false false f all = one_byte 0 (0 ∷ f) (omega arith) (one_byte 0 f (omega arith) all)
+
+abbrev zeros : ℕ → List ℕ → List ℕ
+zeros zero f = f
+zeros (suc n) f = 0 ∷ zeros n f
+
+zeros_bytes : (n : ℕ) (f : List ℕ) → AreBytes f → AreBytes (zeros n f)
+zeros_bytes zero f all = all
+zeros_bytes (suc n) f all = one_byte 0 (zeros n f) (omega arith) (zeros_bytes n f all)
+
+pub bytes_on : (link : Link) (p : List ℕ) → AreBytes p → AreBytes (frame_on link p)
+bytes_on Ethernet p all = all
+bytes_on RawIp p all =
+    zeros_bytes 12 (ether_type (version_of p) ++ p) (type_bytes (version_of p == 4) (version_of p == 6) p all)

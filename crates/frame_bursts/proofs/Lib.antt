@@ -4,4 +4,5 @@ mod Keeping
 mod Laying
 mod Placing
 mod Rising
+mod Without
 pub mod Saying

@@ -7,24 +7,23 @@ use Rattle.std.proofs.lemmas.Bool.{cases_lt}
 use Rattle.std.proofs.lemmas.List.{append-nil, get_or_default, get_or-set_other, get_or-set_same, length-map}
 use Rattle.std.proofs.lemmas.List.{length-take-le, take-append-drop, get_or_append_left}
 use Rattle.pcap_io.specs.Capture.{Packet}
-use Rattle.offload_model.specs.declared.limits.Limits.{Limits}
 use Rattle.offload_model.specs.Captured.{AreCaptured}
 use Rattle.offload_model.specs.CaptureLaws.{RunsComeBack}
+use Rattle.offload_model.specs.declared.limits.Limits.{Limits}
 use Rattle.offload_model.specs.Merged.{merged_of}
 use Rattle.offload_model.specs.Rounds.{runs_within}
 use Rattle.offload_model.proofs.Flows.{IsItem, all_items}
 use Rattle.offload_model.proofs.Items.{within_are}
 use Rattle.frame_runs.specs.declared.run.Run.{Run}
 use Rattle.frame_runs.specs.declared.engine.Engine.{Engine}
-use Rattle.frame_runs.specs.declared.lent.Lent.{Lent}
 use Rattle.frame_runs.specs.Chains.{behind, chain_of, indices, run_of, packet_at, index_sums}
 use Rattle.frame_runs.specs.Engine.{Knows, IsChain, AreRuns, runs_of}
-use Rattle.frame_runs.specs.Lent.{packet_of}
+use Rattle.frame_bursts.specs.declared.link.Link.{Link}
 use Rattle.frame_runs.specs.MergedRun.{payloads_behind}
 use Rattle.frame_runs.proofs.Chains.{sum_ones}
 use Rattle.frame_runs.proofs.Payloads.{chain_at, slot_at}
 use Rattle.frame_bursts.specs.declared.told.BurstRun.{BurstRun}
-use Rattle.frame_bursts.specs.Burst.{Says, Told, Merges, ComesBack, indices_of, frames_of}
+use Rattle.frame_bursts.specs.Burst.{SaysOn, Told, Merges, ComesBack, indices_of, frames_of}
 
 -- ---- there are no more runs than packets
 
@@ -81,12 +80,12 @@ each_taken P (x ∷ xs) (y ∷ ys) h f = (
 
 -- ---- all that is said
 
-module _ (limits : Limits) (ps : List Packet) (e : Engine) (next : List ℕ) (outs : List BurstRun)
+module _ (link : Link) (limits : Limits) (ps : List Packet) (e : Engine) (next : List ℕ) (outs : List BurstRun)
     (are : AreRuns ps (length ps) e) (runs : runs_of ps e ≡ runs_within limits ps)
     (agree : (k : ℕ) → k < length ps → get_or e.next.items k 0 ≡ get_or next k 0)
     (room : length e.runs.items ≤ length outs)
     (told : (i : ℕ) (d : Run) (o : BurstRun) → i < length e.runs.items
-    → Told ps e.next.items (get_or e.runs.items i d) (get_or outs i o))
+    → Told link ps e.next.items (get_or e.runs.items i d) (get_or outs i o))
   where
     same_at : (i : ℕ) (o : BurstRun) (d : Run) → i < length e.runs.items
         → indices_of next (get_or outs i o) ≡ indices e.next.items (get_or e.runs.items i d)
@@ -100,13 +99,13 @@ module _ (limits : Limits) (ps : List Packet) (e : Engine) (next : List ℕ) (ou
     frames_at i o d h = ap (map (packet_at ps)) (same_at i o d h)
 
     says_at : (i : ℕ) (o : BurstRun) (d : Run) → i < length e.runs.items
-        → Says (get_or outs i o) (frames_of ps next (get_or outs i o))
-    says_at i o d h = subst (Says (get_or outs i o)) (sym (frames_at i o d h)) (told i d o h).says
+        → SaysOn link (get_or outs i o) (frames_of ps next (get_or outs i o))
+    says_at i o d h = subst (SaysOn link (get_or outs i o)) (sym (frames_at i o d h)) (told i d o h).says
 
-    pub merged : (n : ℕ) → n ≡ length e.runs.items → Merges limits ps next (take n outs)
-    merged n same = subst (λ (z : ℕ). Merges limits ps next (take z outs)) (sym same) (record {
+    pub merged : (n : ℕ) → n ≡ length e.runs.items → Merges link limits ps next (take n outs)
+    merged n same = subst (λ (z : ℕ). Merges link limits ps next (take z outs)) (sym same) (record {
       runs = pairwise (frames_of ps next) (run_of ps e.next.items) outs e.runs.items room frames_at ∙ runs;
-      each = each_taken (λ r. Says r (frames_of ps next r)) outs e.runs.items room says_at;
+      each = each_taken (λ r. SaysOn link r (frames_of ps next r)) outs e.runs.items room says_at;
       once = λ f. ap (index_sums f) (pairwise (indices_of next) (indices e.next.items) outs e.runs.items room same_at)
           ∙ are.shared f;
     })
@@ -130,10 +129,11 @@ alone_frame p [] headers e = append-nil p.frame
 alone_frame p (x ∷ xs) headers e = absurd (omega (arith, e))
 
 -- the first frame of a run, and what is known of it
-module _ (fs : List Lent) (e : Engine) (i : ℕ) (run : Run) (are : AreRuns (map packet_of fs) (length fs) e)
+module _ {A : Type 0} (link : Link) (packet : A → Packet) (fs : List A) (e : Engine) (i : ℕ) (run : Run)
+    (are : AreRuns (map packet fs) (length fs) e)
     (h : i < length e.runs.items) (run_is : run ≡ get_or e.runs.items i run) where
   abbrev ps : List Packet
-  ps = map packet_of fs
+  ps = map packet fs
 
   abbrev others : List Packet
   others = map (packet_at ps) (behind e.next.items run)
@@ -142,41 +142,41 @@ module _ (fs : List Lent) (e : Engine) (i : ℕ) (run : Run) (are : AreRuns (map
   chain = subst (IsChain ps e.next.items) (sym run_is) (chain_at ps (length fs) e i run are h)
 
   pub first_below : run.first < length fs
-  first_below = omega (arith, chain.inside.0, length-map fs packet_of)
+  first_below = omega (arith, chain.inside.0, length-map fs packet)
 
-  module _ (first : Lent) (is : first ≡ get_or fs run.first first) where
-    same : packet_at ps run.first ≡ packet_of first
-    same = slot_at packet_of fs run.first first first_below is
+  module _ (first : A) (is : first ≡ get_or fs run.first first) where
+    same : packet_at ps run.first ≡ packet first
+    same = slot_at packet fs run.first first first_below is
 
-    pub knows_at : Knows run (packet_of first) others
+    pub knows_at : Knows run (packet first) others
     knows_at = subst (λ (z : Packet). Knows run z others) same chain.knows
 
     -- so what is said of it is said of the run
     pub told_at : (r : BurstRun) → r.first ≡ run.first → r.n ≡ run.more + 1
-        → ((rest : List Packet) → Knows run (packet_of first) rest → Says r (packet_of first ∷ rest))
-        → (d : Run) → Told ps e.next.items (get_or e.runs.items i d) r
+        → ((rest : List Packet) → Knows run (packet first) rest → SaysOn link r (packet first ∷ rest))
+        → (d : Run) → Told link ps e.next.items (get_or e.runs.items i d) r
     told_at r f m says d =
-        subst (λ (z : Run). Told ps e.next.items z r) (run_is ∙ get_or_default e.runs.items i run d h) (record {
+        subst (λ (z : Run). Told link ps e.next.items z r) (run_is ∙ get_or_default e.runs.items i run d h) (record {
           first = f;
           more = m;
-          says = subst (λ (z : Packet). Says r (z ∷ others)) (sym same) (says others knows_at);
+          says = subst (λ (z : Packet). SaysOn link r (z ∷ others)) (sym same) (says others knows_at);
         })
 
 -- ---- a loop over runs
 
-pub told_more : (ps : List Packet) (next : List ℕ) (items : List Run) (outs : List BurstRun) (i : ℕ) (x : BurstRun)
+pub told_more : (link : Link) (ps : List Packet) (next : List ℕ) (items : List Run) (outs : List BurstRun) (i : ℕ) (x : BurstRun)
     → i < length outs
-    → ((k : ℕ) (d : Run) (o : BurstRun) → k < i → Told ps next (get_or items k d) (get_or outs k o))
-    → ((d : Run) → Told ps next (get_or items i d) x)
-    → (k : ℕ) (d : Run) (o : BurstRun) → k < i + 1 → Told ps next (get_or items k d) (get_or (set outs i x) k o)
-told_more ps next items outs i x inside before own k d o h = elim (cases_lt k i) [
+    → ((k : ℕ) (d : Run) (o : BurstRun) → k < i → Told link ps next (get_or items k d) (get_or outs k o))
+    → ((d : Run) → Told link ps next (get_or items i d) x)
+    → (k : ℕ) (d : Run) (o : BurstRun) → k < i + 1 → Told link ps next (get_or items k d) (get_or (set outs i x) k o)
+told_more link ps next items outs i x inside before own k d o h = elim (cases_lt k i) [
   | inl l ↦
-      subst (λ (z : BurstRun). Told ps next (get_or items k d) z)
+      subst (λ (z : BurstRun). Told link ps next (get_or items k d) z)
       (sym (get_or-set_other outs i k x o (omega (arith, l)))) (before k d o l)
   | inr r ↦
       let e : i ≡ k = omega (arith, h, r) in
-      subst (λ (z : ℕ). Told ps next (get_or items z d) (get_or (set outs i x) z o)) e
-      (subst (λ (z : BurstRun). Told ps next (get_or items i d) z) (sym (get_or-set_same outs i x o inside)) (own d))
+      subst (λ (z : ℕ). Told link ps next (get_or items z d) (get_or (set outs i x) z o)) e
+      (subst (λ (z : BurstRun). Told link ps next (get_or items i d) z) (sym (get_or-set_same outs i x o inside)) (own d))
 ]
 
 -- ---- what comes back
@@ -190,9 +190,9 @@ all_mapped : {A B : Type 0} (P : B → Type 0) (F : A → B) (xs : List A) → A
 all_mapped P F [] a = tt
 all_mapped P F (x ∷ xs) a = (a.0, all_mapped P F xs a.1)
 
-pub all_come_back : (limits : Limits) (ps : List Packet) (next : List ℕ) (told : List BurstRun) → RunsComeBack
-    → Merges limits ps next told → AreCaptured ps → AllByRecursion (λ r. ComesBack (frames_of ps next r)) told
-all_come_back limits ps next told law m c =
+pub all_come_back : (link : Link) (limits : Limits) (ps : List Packet) (next : List ℕ) (told : List BurstRun) → RunsComeBack
+    → Merges link limits ps next told → AreCaptured ps → AllByRecursion (λ r. ComesBack (frames_of ps next r)) told
+all_come_back link limits ps next told law m c =
     all_mapped ComesBack (frames_of ps next) told
     (subst (AllByRecursion ComesBack) (sym m.runs)
     (all_back law (runs_within limits ps) (all_items ps (runs_within limits ps) c.each (within_are limits ps c.rising))))

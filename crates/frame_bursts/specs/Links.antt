@@ -1,7 +1,8 @@
 -- What packets begin with, and the frames that they are merged as.
-use Rattle.std.specs.Prelude.{◌≡◌, ℕ, ◌+◌, ◌-◌, ◌/◌, ◌≤◌, ◌==◌, if◌then◌else◌, List, [], ◌∷◌, ◌++◌, length, drop, take}
-use Rattle.net_bytes.specs.Bytes.{byte, bytes16}
+use Rattle.std.specs.Prelude.{◌≡◌, ℕ, ◌+◌, ◌-◌, ◌/◌, ◌≤◌, ◌==◌, if◌then◌else◌, List, [], ◌∷◌, ◌++◌, length, drop, take, min}
+use Rattle.net_bytes.specs.Bytes.{byte}
 use Rattle.inet_sum.specs.Stands.{StandsFor}
+use Rattle.offload_model.specs.declared.limits.Limits.{Limits}
 use Rattle.pcap_io.specs.Capture.{Packet}
 use Rattle.pcap_io.specs.Limits.{most_frame}
 use Rattle.frame_runs.specs.Frames.{AreBytes, IsFrontOf}
@@ -49,6 +50,16 @@ framed link l = record {
   original = in_frame link l.original;
   frame = frame_on link l.bytes.now;
 }
+
+-- the limits of frames, of those of packets: a frame has 14 bytes more, and no number of bytes has more than 32 bits
+abbrev pub limits_on : Link → Limits → Limits
+limits_on Ethernet limits = limits
+limits_on RawIp limits = record { segs = limits.segs; bytes = min (limits.bytes + 14) 4294967295 }
+
+-- how many of n packets have a frame of their own
+abbrev pub raw_count : Link → ℕ → ℕ
+raw_count Ethernet n = 0
+raw_count RawIp n = n
 
 -- ---- a packet whose first bytes are copied behind an Ethernet header
 

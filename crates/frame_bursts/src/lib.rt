@@ -19,6 +19,10 @@
 //!   [`Refused::Usage`], and exactly that is; too little room [`Refused::NoRoom`], and exactly that.
 //! - `untouched`: where it refuses, nothing was written. `sizes`: the caller's lists stay as long as they are.
 //!
+//! Packets that begin with their IP header ([`Link::RawIp`]) are merged as the frames that they are with an Ethernet
+//! header in front (`framed`), and what is told of a run hasn't that header (`SaysRaw`): a run's headers begin with IP,
+//! and places count from there. Their first 200 bytes are copied, and no others ([`RawFrame`]).
+//!
 //! A [`BurstEngine`] is the same with memory that is kept: it merges burst after burst, or receives frames as they
 //! come. What it has received is said by the list of these frames (`Holds`), which is the caller's and is passed at
 //! each call. Proved:
@@ -44,12 +48,15 @@
 //!     },
 //! ];
 //! let limits = Limits::up_to(64);
-//! let merged = merge_burst(alloc, limits, &frames, &mut next, &mut runs); // Ok(1): they are one run
+//! let merged = merge_burst(alloc, Link::Ethernet, limits, &frames, &mut next, &mut runs); // Ok(1)
 //! ```
 //!
-//! Its parts: `lawful` (what a caller may pass), `places` (where a merged frame's last headers stand, and the sum of
+//! Its parts: `link` (what packets begin with), `raw_frame` (a packet without an Ethernet header as a frame with one),
+//! `ghost_bytes` (bytes that contracts alone have), `linked` (frames merged by what they begin with), `lawful` (what a
+//! caller may pass), `places` (where a merged frame's last headers stand, and the sum of
 //! their pseudo header), `told` (what is said of a run), `burst` (the call), `kept` (an engine that is kept).
-//! `specs/Burst.antt` says what a lawful burst is, what is said of a run, and what merging comes to;
+//! `specs/Links.antt` says which frame a packet is merged as, `specs/Without.antt` what is said without an Ethernet
+//! header, `specs/Burst.antt` what a lawful burst is, what is said of a run, and what merging comes to;
 //! `specs/Places.antt` what is said of its last headers, `specs/Kept.antt` what an engine has received.
 //!
 //! Tests: `merge_tests`, module `examples`; `contrib/c/burst_check`.
@@ -64,6 +71,9 @@
 //!   its own frames, for which it has the pointers.
 //! - **Where the last headers stand is told with each run**, and so is the sum of their pseudo header: a device that
 //!   cuts a merged frame itself asks for both, and who read them again would have to walk the headers.
+//! - **A packet without an Ethernet header gets one in a copy of its headers**: what merges is said of frames once, and
+//!   no crate below knows of packets without. Of the bytes behind the copy their sum is kept, and as a ghost the packet
+//!   (`GhostBytes`), so that an engine borrows nothing of what it has received.
 //! - **What a burst has to be is what the model asks of a capture** (`AreCaptured`): so that a run's segments come back
 //!   needs no premise, and all of it is tested.
 #![tactic(auto)]
@@ -73,6 +83,7 @@ mod ghost_bytes;
 mod kept;
 mod lawful;
 mod link;
+mod linked;
 mod places;
 mod raw_frame;
 mod told;

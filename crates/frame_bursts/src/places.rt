@@ -7,12 +7,11 @@ ghost use Rattle.frame_layout.specs.Front.{AreAddressesWithin};
 ghost use Rattle.frame_layout.specs.Headers.{AreLaid};
 ghost use Rattle.frame_layout.specs.declared.layout.Layer.TheVariants.{Ip4, Ip6};
 ghost use Rattle.frame_runs.specs.Engine.{KnowsSome};
-ghost use Rattle.frame_runs.specs.Lent.{packet_of};
 ghost use Rattle.frame_runs.specs.MergedRun.{headers_size};
 ghost use Rattle.frame_bursts.specs.Places.{from_end, protocol_of as protocol_said, ArePlaces, AreZeros, HasPlaces};
 
 use frame_layout::{Header, Layer, Layout};
-use frame_runs::{Lent, Run};
+use frame_runs::{Frame, Run};
 use inet_sum::Partial;
 
 /// The last IP header of a frame, the TCP or UDP header behind it, and the sum of the pseudo header of both. Places are
@@ -115,12 +114,12 @@ pub(crate) fn places_in(layout: &Layout, head: &[u8], len: u32) -> Places
 
 /// The places in what a run comes to, whose first frame is `first`: a frame of `len` bytes with the run's headers at
 /// its front, which `headers` begins with. Zeros where the run is one frame.
-pub(crate) fn places_of(run: &Run, first: &Lent<'_>, headers: &[u8; 200], len: u32) -> Places
-    requires run { KnowsSome run.now (packet_of first.now) }
+pub(crate) fn places_of<F: Frame>(run: &Run, first: &F, headers: &[u8; 200], len: u32) -> Places
+    requires run { KnowsSome run.now (F.packet first.now) }
     ensures alone { run.now.more ≡ 0 → AreZeros result.ip_at result.leaf_at result.leaf result.pseudo }
     ensures placed { 1 ≤ run.now.more → (behind : List ℕ)
         → length (take (headers_size run.now) headers.now ++ behind) ≡ len
-        → HasPlaces (packet_of first.now).frame (take (headers_size run.now) headers.now ++ behind)
+        → HasPlaces (F.packet first.now).frame (take (headers_size run.now) headers.now ++ behind)
         result.ip_at result.leaf_at result.leaf result.pseudo }
 {
     if run.more > 0

@@ -4,7 +4,7 @@ use crate::merging::{emptied, packet, plain, reserve, slot, spent};
 use crate::segmenting::cutting::{buffer, merged};
 use crate::tapping::packets::task_over;
 use frags::Outcomes;
-use frame_bursts::{BurstRun, merge_burst};
+use frame_bursts::{BurstRun, Link, merge_burst};
 use frame_causes::{Cause, PairCause, why, why_apart};
 use frame_cuts::{CutSegment, cut_frame, fill_frame};
 use frame_layout::{candidate, shape};
@@ -125,7 +125,7 @@ fn example_of_frame_bursts(rt: HostRuntime) {
         },
     ];
     let limits = Limits::up_to(64);
-    let merged = merge_burst(alloc, limits, &frames, &mut next, &mut runs); // Ok(1): they are one run
+    let merged = merge_burst(alloc, Link::Ethernet, limits, &frames, &mut next, &mut runs); // Ok(1)
     let run = runs[0];
     let is_one = matches!(merged, Ok(1));
     assert!(rt; is_one && (run.first, run.n, run.m, run.length, next[0]) == (0, 2, 4, 60, 1));

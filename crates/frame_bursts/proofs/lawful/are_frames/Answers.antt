@@ -6,7 +6,7 @@ pub returns-then-not-is_captured : goal.returns-then-not-is_captured
 returns-then-not-is_captured c = record {
   frames = (
     λ t. absurd cc,
-    λ a. absurd (not_captured c.args.frames.now c.loop-i.i c.frame_at-frame.result c.loop-i-test.true
+    λ a. absurd (not_captured c.args.link c.args.frames.now c.loop-i.i c.frame_at-frame.result c.loop-i-test.true
         (c.frame_at-frame.ensures.frame c.frame_at-frame.result)
         (λ is. let t = c.is_captured.ensures.captured.1 is in absurd cc) a),
   );
@@ -16,7 +16,7 @@ pub returns-then-before-frame : goal.returns-then-before-frame
 returns-then-before-frame c = record {
   frames = (
     λ t. absurd cc,
-    λ a. absurd (not_above c.args.frames.now c.loop-i.i c.frame_at-frame.result c.frame_at-before.result
+    λ a. absurd (not_above c.args.link c.args.frames.now c.loop-i.i c.frame_at-frame.result c.frame_at-before.result
         c.if-i-gt0.true c.loop-i-test.true (c.frame_at-frame.ensures.frame c.frame_at-before.result)
         (c.frame_at-before.ensures.frame c.frame_at-before.result) c.if-before-frame.true a),
   );
@@ -24,14 +24,14 @@ returns-then-before-frame c = record {
 
 pub loop-i-init : goal.loop-i-init
 loop-i-init c = (
-  λ k d h l. known_each c.args.frames.now c.args.from k d c.requires.known.each h l,
-  λ j k d e h l. known_rise c.args.frames.now c.args.from j k d c.requires.known.rising e h l,
+  λ k d h l. known_each c.args.link c.args.frames.now c.args.from k d c.requires.known.each h l,
+  λ j k d e h l. known_rise c.args.link c.args.frames.now c.args.from j k d c.requires.known.rising e h l,
 )
 
 pub returns : goal.returns
 returns c = record {
   frames = (
-    λ t. are_frames c.args.frames.now c.loop-i.i (omega (arith, c.loop-i-test.false)) c.loop-i.invariant.0
+    λ t. are_frames c.args.link c.args.frames.now c.loop-i.i (omega (arith, c.loop-i-test.false)) c.loop-i.invariant.0
         c.loop-i.invariant.1,
     λ a. refl,
   );

@@ -1,5 +1,4 @@
-use Rattle.std.proofs.Common.{◌+◌, ◌-◌, map, arith}
-use Rattle.std.proofs.lemmas.List.{length-map}
+use Rattle.std.proofs.Common.{arith}
 use Rattle.frame_bursts.specs.declared.link.Link.TheVariants.{RawIp}
 use Rattle.frame_bursts.proofs.Framing.{captured_at, one_more, all_more}
 use Rattle.frame_bursts.proofs.raw_frame.push_frames.Goals as goal
@@ -18,7 +17,12 @@ loop-i-preserved c = (
   (
     all_more c.loop-i.frames.items c.push_reserved.new.self.items c.of.result c.push_reserved.ensures.items
         c.loop-i.invariant.1.0 c.of.ensures.held,
-    λ n h. omega (arith, c.loop-i.invariant.1.1 n h, c.loop-i-test.true, c.push_reserved.ensures.len,
-        c.push_reserved.ensures.capacity),
+    λ n h. omega (
+      arith,
+      c.loop-i.invariant.1.1 n h,
+      c.loop-i-test.true,
+      c.push_reserved.ensures.len,
+      c.push_reserved.ensures.capacity,
+    ),
   ),
 )

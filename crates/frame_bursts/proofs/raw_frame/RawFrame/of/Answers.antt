@@ -1,6 +1,5 @@
-use Rattle.std.proofs.Common.{ℕ, ◌+◌, ◌≤◌, List, ◌++◌, [], length, drop, refl, ap, subst, ◌∙◌, sym, arith}
+use Rattle.std.proofs.Common.{ℕ, List, [], refl, subst, arith}
 use Rattle.std.proofs.lemmas.List.{length-append, take_rest}
-use Rattle.pcap_io.specs.Limits.{most_frame}
 use Rattle.inet_sum.specs.Stands.{StandsFor}
 use Rattle.frame_bursts.specs.Links.{ethernet_for}
 use Rattle.frame_bursts.proofs.Framing.{ethernet_size, held_by}

@@ -1,8 +1,8 @@
-use Rattle.std.proofs.Common.{ℕ, ◌-◌, ◌≤◌, [], length, take, drop, subst, arith}
-use Rattle.std.proofs.lemmas.List.{length-drop, length-take-le}
+use Rattle.std.proofs.Common.{◌-◌, ◌≤◌, [], take, drop, subst, arith}
+use Rattle.std.proofs.lemmas.List.{length-drop}
 use Rattle.inet_sum.specs.Stands.{StandsFor}
 use Rattle.frame_bursts.specs.Links.{raw_packet}
-use Rattle.frame_bursts.proofs.Framing.{at_in_head, behind_at, bytes_behind, frame_size}
+use Rattle.frame_bursts.proofs.Framing.{at_in_head, behind_at, bytes_behind}
 use Rattle.frame_bursts.proofs.raw_frame.RawFrameFrame.sum_from.Goals as goal
 
 pub returns-clause-sum : goal.returns-clause-sum
