@@ -193,6 +193,63 @@ static void without_memory(struct offload_frame *two) {
     printf("%d growths refused in turn\n", refusals);
 }
 
+/* The two frames, each with the header that its version wants, and the packets behind these headers: what is told of both is the same, but for the
+ * headers. */
+static void raw_beside(const struct offload_frame *both) {
+    uint8_t bytes[2][154] = {{0}};
+    struct offload_frame framed[2], raw[2];
+    struct offload_run runs[2] = {{0}}, own[2] = {{0}};
+    uint32_t next[2] = {0}, own_next[2] = {0};
+    size_t made, own_made;
+    for (int i = 0; i < 2; i++) {
+        if (both[i].length < 14) return;
+        memcpy(bytes[i] + 14, both[i].bytes + 14, both[i].length - 14);
+        offload_put_ethernet(bytes[i], both[i].length);
+        framed[i] = raw[i] = both[i];
+        framed[i].bytes = bytes[i], raw[i].bytes = bytes[i] + 14, raw[i].length -= 14, raw[i].original -= 14;
+    }
+    uint32_t told = offload_gro_burst(64, 0, framed, 2, next, 2, runs, 2, &made);
+    uint32_t told_raw = offload_gro_burst_link(OFFLOAD_LINK_RAW, 64, 0, raw, 2, own_next, 2, own, 2, &own_made);
+    check(told == OFFLOAD_BURST_OK && told_raw == told && made == own_made && next[0] == own_next[0], "raw packets merge as frames do");
+    for (size_t i = 0; i < made; i++) {
+        uint32_t front = runs[i].n > 1 ? 14 : 0;
+        check(own[i].first == runs[i].first && own[i].n == runs[i].n && own[i].m == runs[i].m && own[i].length + 14 == runs[i].length &&
+                  own[i].headers_length + front == runs[i].headers_length && own[i].pseudo == runs[i].pseudo && own[i].kind == runs[i].kind &&
+                  own[i].modes == runs[i].modes && own[i].ip_at + front == runs[i].ip_at && own[i].leaf_at + front == runs[i].leaf_at &&
+                  own[i].leaf == runs[i].leaf && !memcmp(own[i].headers, runs[i].headers + front, own[i].headers_length),
+              "and are told without their Ethernet headers");
+    }
+}
+
+/* Numbers of links, and engines of raw packets. */
+static void links(const struct offload_frame *two) {
+    struct offload_frame raw[2] = {two[0], two[1]}, long_one = two[0];
+    struct offload_run runs[2] = {{0}}, own[2] = {{0}};
+    uint32_t next[2] = {FILL, FILL};
+    size_t made = 99;
+    struct offload_gro gro = {0};
+    for (int i = 0; i < 2; i++) raw[i].bytes += 14, raw[i].length -= 14, raw[i].original -= 14;
+    for (uint32_t link = 0; link < 300; link++) {
+        uint32_t wanted = link == OFFLOAD_LINK_ETHERNET || link == OFFLOAD_LINK_RAW ? OFFLOAD_BURST_OK : OFFLOAD_BURST_USAGE;
+        check(offload_gro_burst_link(link, 64, 0, raw, 2, next, 2, own, 2, &made) == wanted && (made > 0) == !wanted, "a link of this number");
+        check(offload_gro_new_link(&gro, link, 2, 64, 0) == wanted && gro.made == !wanted, "an engine for it");
+        offload_gro_free(&gro);
+    }
+    check(offload_gro_burst_link(OFFLOAD_LINK_RAW, 64, 0, raw, 2, next, 2, runs, 2, &made) == OFFLOAD_BURST_OK && made == 1, "two are one run");
+    check(offload_gro_burst_link(OFFLOAD_LINK_RAW, 64, 190, raw, 2, next, 2, runs, 2, &made) == OFFLOAD_BURST_OK && made == 1, "of 190 bytes");
+    check(offload_gro_burst_link(OFFLOAD_LINK_RAW, 64, 189, raw, 2, next, 2, own, 2, &made) == OFFLOAD_BURST_OK && made == 2, "and no fewer");
+    check(offload_gro_new_link(&gro, OFFLOAD_LINK_RAW, 2, 64, 0) == OFFLOAD_BURST_OK, "an engine of raw packets");
+    left = 0; /* and no growth from here on */
+    check(offload_gro_merge(&gro, raw, 2, next, 2, own, 2, &made) == OFFLOAD_BURST_OK && made == 1, "takes no memory for a burst");
+    check(!memcmp(own[0].headers, runs[0].headers, runs[0].headers_length) && own[0].length == 190, "which it tells as the other call");
+    for (size_t i = 1; i <= 2; i++) check(offload_gro_receive(&gro, raw, i) == OFFLOAD_BURST_OK, "nor for a packet");
+    check(offload_gro_flush(&gro, raw, 2, next, 2, own, 2, &made) == OFFLOAD_BURST_OK && made == 1 && own[0].n == 2, "nor to flush");
+    left = -1;
+    offload_gro_free(&gro);
+    long_one.original = (1u << 31) - 14;
+    check(offload_gro_burst_link(OFFLOAD_LINK_RAW, 64, 0, &long_one, 1, next, 2, own, 2, &made) == OFFLOAD_BURST_USAGE, "an original length of 2^31 - 14");
+}
+
 /* A frame in a random one's bytes beside a right one, of a random length: what is merged is a run of both. */
 static void random_pairs(struct offload_frame *two, long pairs) {
     uint8_t bytes[154] = {0};
@@ -208,6 +265,7 @@ static void random_pairs(struct offload_frame *two, long pairs) {
         if (call(&burst) != OFFLOAD_BURST_OK || burst.made > 2 || burst.made < 1) check(0, "a random frame");
         if (burst.made == 1 && (burst.runs[0].n != 2 || burst.next[0] != 1)) check(0, "a random frame that is merged");
         if ((offload_why_apart(&both[0], &both[1]) == OFFLOAD_MERGEABLE) != (burst.made == 1)) check(0, "why two random frames are no run");
+        raw_beside(both);
         merged += burst.made == 1;
     }
     printf("%ld random pairs, of which %ld are merged\n", pairs, merged);
@@ -369,6 +427,7 @@ int main(int count_of_words, char **words) {
     struct offload_frame two[2] = {{first, length, (uint32_t)length, 0}, {second, other, (uint32_t)other, 1}};
     numbers(two, long_frame);
     without_ethernet(two);
+    links(two);
     many_frames(&two[0]);
     without_memory(two);
     random_pairs(two, count_of_words > 1 ? atol(words[1]) : 300000);

@@ -73,6 +73,18 @@ struct offload_run {
 uint32_t offload_gro_burst(uint32_t segs, uint32_t bytes, const struct offload_frame *frames, size_t frames_count, uint32_t *next,
                            size_t next_count, struct offload_run *runs, size_t runs_count, size_t *count);
 
+/* What packets begin with, by the numbers of captures' link types. */
+enum offload_link {
+    OFFLOAD_LINK_ETHERNET = 1, /* an Ethernet header */
+    OFFLOAD_LINK_RAW = 101     /* an IP header, of either version, as those of a TUN device */
+};
+
+/* The same for packets that begin as `link` says, where they lie. Raw packets are merged as if each had an Ethernet header in front, and nothing that
+ * is told has it: a run's headers begin with IP, and `ip_at`, `leaf_at`, `length`, `headers_length` (28 to 186) and `bytes` count from there. A
+ * packet that is no IP is alone. One has at most 262,130 bytes, and an original length below 2^31 - 14. USAGE also for another link. */
+uint32_t offload_gro_burst_link(uint32_t link, uint32_t segs, uint32_t bytes, const struct offload_frame *frames, size_t frames_count,
+                                uint32_t *next, size_t next_count, struct offload_run *runs, size_t runs_count, size_t *count);
+
 /* An engine, or none where it is all zeros. Its members are the library's own. */
 struct offload_gro {
     void *at;
@@ -82,6 +94,10 @@ struct offload_gro {
 /* An engine for at most `frames` (0 to 65,535) between two flushes, in runs of at most `segs` and `bytes`, as by offload_gro_burst, where there
  * is none yet. All memory that it takes it takes here: some 2,700 bytes and 200 a frame. 0, USAGE or NO_MEMORY. */
 uint32_t offload_gro_new(struct offload_gro *gro, uint32_t frames, uint32_t segs, uint32_t bytes);
+
+/* The same for packets that begin as `link` says: all that it merges, receives and flushes are such, and what it tells is as
+ * offload_gro_burst_link tells it. Of raw packets it takes some 250 bytes more for each, for a copy of its headers. */
+uint32_t offload_gro_new_link(struct offload_gro *gro, uint32_t link, uint32_t frames, uint32_t segs, uint32_t bytes);
 
 /* A burst as by offload_gro_burst, by the memory of an engine that has received nothing since its last flush: the call for who merges burst after
  * burst. Also FULL; USAGE where there is no engine, or it has received frames. */
@@ -126,9 +142,9 @@ uint32_t offload_gso_burst(const uint8_t *frame, size_t length, uint32_t m, uint
  * where it is longer than 262,144 bytes. */
 uint32_t offload_fill_sums(uint8_t *frame, size_t length);
 
-/* ---- packets without an Ethernet header, as a TUN device has them
+/* ---- packets without an Ethernet header that are to be cut
  *
- * A packet is read 14 bytes behind the front of its room, an Ethernet header is written there, and these are a frame like any other. What comes of
+ * What merges them where they lie stands above (OFFLOAD_LINK_RAW). What cuts, fills in sums and tells causes wants frames: a packet is read 14 bytes behind the front of its room, an Ethernet header is written there, and these are a frame like any other. What comes of
  * it is written without its first 14 bytes again: of a run {headers + 14, headers_length - 14}, and of a frame that is alone {bytes + 14, length -
  * 14}; of a segment {headers + 14, headers_length - 14}. No byte of a packet is moved. `ip_at` and `leaf_at` count the 14 bytes. */
 

@@ -8,6 +8,7 @@ use Rattle.offload_model.specs.declared.limits.Limits.{Limits}
 use Rattle.offload_model.specs.Merged.{frame_at, merged_of}
 use Rattle.offload_model.specs.Segments.{IsLawfulSuper}
 use Rattle.frame_bursts.specs.Burst.{frames_of, Merges}
+use Rattle.frame_bursts.specs.declared.link.Link.TheVariants.{Ethernet}
 use Rattle.frame_bursts.specs.declared.told.BurstRun.{BurstRun}
 use Rattle.frame_cuts.specs.Cuts.{bytes_of, cut_head, whole, Cuts, MayBeCut}
 use Rattle.frame_cuts.specs.declared.cut.CutSegment.{CutSegment}
@@ -28,7 +29,7 @@ abbrev pub MergedComesApart : Type 0
 MergedComesApart =
     (limits : Limits) (ps : List Packet) (next : List ℕ) (told : List BurstRun)
     → AreCaptured ps
-    → Merges limits ps next told
+    → Merges Ethernet limits ps next told
     → AllByRecursion (λ r. 2 ≤ r.n → ComesApart r (frames_of ps next r)) told
 
 -- the merged frame of a run begins with the 14 bytes that its first frame begins with
@@ -40,5 +41,5 @@ abbrev pub EthernetStays : Type 0
 EthernetStays =
     (limits : Limits) (ps : List Packet) (next : List ℕ) (told : List BurstRun)
     → AreCaptured ps
-    → Merges limits ps next told
+    → Merges Ethernet limits ps next told
     → AllByRecursion (λ r. 2 ≤ r.n → HasItsEthernet (frames_of ps next r)) told

@@ -3,4 +3,5 @@ pub mod Causes
 pub mod Cutting
 pub mod Front
 pub mod Inverse
+pub mod LinkNumbers
 pub mod Made

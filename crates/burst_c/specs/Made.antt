@@ -20,7 +20,7 @@ FromTo R None after = after ≡ None
 FromTo R (Some g) after = HasEngine (R g) after
 
 abbrev pub HaveSameNumbers : Option BurstEngine → Option BurstEngine → Type 0
-HaveSameNumbers = FromTo (λ g h. IsFor g.limit g.limits h)
+HaveSameNumbers = FromTo (λ g h. IsFor g.link g.limit g.limits h)
 
 abbrev pub AllStays : Option BurstEngine → Option BurstEngine → Type 0
 AllStays = FromTo Stays

@@ -3,11 +3,12 @@ ghost use Rattle.std.specs.Prelude.{◌≡◌, ◌↔◌, ◌≤◌, ◌⊎◌, 
 ghost use Rattle.std.specs.List.{AllByRecursion};
 ghost use Rattle.frame_runs.specs.Lent.{packet_of};
 ghost use Rattle.frame_bursts.specs.Burst.{AreLawful, HasRoom, Merges, ComesBack, frames_of};
+ghost use Rattle.frame_bursts.specs.declared.link.Link.TheVariants.{Ethernet};
 ghost use Rattle.burst_c.specs.Bounds.{limits_for};
 
 use crate::codes::{OK, code_of};
 use crate::limits::limits_of;
-use frame_bursts::{BurstRun, merge_burst};
+use frame_bursts::{BurstRun, Link, merge_burst};
 use frame_runs::Lent;
 use std::alloc::Global;
 
@@ -29,12 +30,12 @@ pub extern "C" fn offload_gro_burst(
     runs: &mut [BurstRun],
     count: &mut usize,
 ) -> u32
-    ensures merges { result ≡ 0 → Merges (limits_for segs bytes) (map packet_of frames.now) next.new
+    ensures merges { result ≡ 0 → Merges Ethernet (limits_for segs bytes) (map packet_of frames.now) next.new
         (take count.new runs.new) }
     ensures back { result ≡ 0 → AllByRecursion
         (λ r. ComesBack (frames_of (map packet_of frames.now) next.new r)) (take count.new runs.new) }
-    ensures usage { (result ≡ 2) ↔ (AreLawful (limits_for segs bytes) frames.now → ⊥) }
-    ensures room { (result ≡ 9) ↔ (AreLawful (limits_for segs bytes) frames.now
+    ensures usage { (result ≡ 2) ↔ (AreLawful Ethernet (limits_for segs bytes) frames.now → ⊥) }
+    ensures room { (result ≡ 9) ↔ (AreLawful Ethernet (limits_for segs bytes) frames.now
         × (HasRoom (length frames.now) (length next.old) (length runs.old) → ⊥)) }
     ensures codes { (result ≡ 0) ⊎ ((result ≡ 2) ⊎ ((result ≡ 7) ⊎ (result ≡ 9))) }
     ensures untouched { (result ≡ 2) ⊎ ((result ≡ 7) ⊎ (result ≡ 9))
@@ -42,7 +43,14 @@ pub extern "C" fn offload_gro_burst(
     ensures sizes { (length next.new ≡ length next.old) × (length runs.new ≡ length runs.old) }
 {
     *count = 0;
-    match merge_burst(alloc, limits_of(segs, bytes), frames, next, runs) {
+    match merge_burst(
+        alloc,
+        Link::Ethernet,
+        limits_of(segs, bytes),
+        frames,
+        next,
+        runs,
+    ) {
         Ok(n) => {
             *count = n;
             OK

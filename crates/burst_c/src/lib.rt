@@ -13,7 +13,10 @@
 //!   and a list too short. `codes`: else it is 0 or 7.
 //! - `untouched`: but on 0 nothing is written, and `count` is 0. `sizes`: the lists stay as long as they are.
 //!
-//! Of engines, which [`offload_gro_new`] makes and [`offload_gro_free`] ends:
+//! The same of [`offload_gro_burst_link`], for packets that begin as a number of link types says: with Ethernet (1) or
+//! with IP (101), which are merged as with an Ethernet header in front and told without it. Another number is answered 2.
+//!
+//! Of engines, which [`offload_gro_new`] and [`offload_gro_new_link`] make and [`offload_gro_free`] ends:
 //!
 //! - `made`: an engine that is made is for so many frames, in runs of so many and of so many bytes, and has received
 //!   none.
@@ -43,8 +46,9 @@
 //! all).
 //!
 //! Its parts: `exports` (a burst), `kept` (engines), `handle` (an engine by its address), `cuts` (the inverse), `laws`
-//! (both together), `causes`, `front` (packets without an Ethernet header), `limits` (two numbers), `codes`.
-//! `specs/Bounds.antt` says which limits two numbers are, `specs/Made.antt` what holds of an engine where there is one,
+//! (both together), `causes`, `front` (an Ethernet header in front of a packet), `limits` (two numbers), `links` and
+//! `linked` (bursts by link), `codes`. `specs/Bounds.antt` says which limits two numbers are,
+//! `specs/LinkNumbers.antt` which link one is, `specs/Made.antt` what holds of an engine where there is one,
 //! `specs/Cutting.antt` what cutting answers, `specs/Inverse.antt` what comes of a merged frame that is cut,
 //! `specs/Causes.antt` the numbers of causes, `specs/Front.antt` the Ethernet headers that are written; what its address
 //! owns is `heap_owns_any` of `on_heap`.
@@ -58,9 +62,8 @@
 //! - **An engine is in its place or out of it**: a call takes it out, works on it and puts it back, so that each call
 //!   is one of `frame_bursts`, and only these two steps are proved by hand. A struct of zeros is a place without an
 //!   engine, so that what `offload_gro_new` makes can be said in its contract.
-//! - **A packet without an Ethernet header gets one in front of it**, in room that its reader leaves, and no crate
-//!   below knows of packets without: what merges, and each byte that comes back, is the same but for these 14 bytes,
-//!   which all frames of a flow have alike. No byte of a packet is moved.
+//! - **A packet without an Ethernet header that is to be cut gets one in front of it**, in room that its reader leaves,
+//!   and what cuts knows of no packets without. No byte of a packet is moved. Merging needs no room: it copies headers.
 //! - **An engine has no frame, and no address of one**: nothing that C lends may be kept in what it owns. So the list
 //!   is passed at each call.
 #![tactic(auto)]
@@ -74,12 +77,16 @@ mod handle;
 mod kept;
 mod laws;
 mod limits;
+mod linked;
+mod links;
 
 pub use causes::{offload_why, offload_why_apart};
 pub use cuts::{offload_fill_sums, offload_gso_burst};
 pub use exports::offload_gro_burst;
 pub use front::offload_put_ethernet;
 pub use kept::{
-    offload_gro_flush, offload_gro_free, offload_gro_merge, offload_gro_new, offload_gro_receive,
+    offload_gro_flush, offload_gro_free, offload_gro_merge, offload_gro_new, offload_gro_new_link,
+    offload_gro_receive,
 };
 pub use laws::{ethernet_stays, merged_comes_apart};
+pub use linked::offload_gro_burst_link;
