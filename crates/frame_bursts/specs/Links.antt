@@ -1,5 +1,5 @@
 -- What packets begin with, and the frames that they are merged as.
-use Rattle.std.specs.Prelude.{◌≡◌, ℕ, ◌+◌, ◌-◌, ◌/◌, ◌≤◌, ◌==◌, if◌then◌else◌, List, [], ◌∷◌, ◌++◌, length, drop, take, min}
+use Rattle.std.specs.Prelude.{◌≡◌, ℕ, ◌+◌, ◌/◌, ◌≤◌, ◌==◌, if◌then◌else◌, List, [], ◌∷◌, ◌++◌, length, take, min}
 use Rattle.net_bytes.specs.Bytes.{byte}
 use Rattle.inet_sum.specs.Stands.{StandsFor}
 use Rattle.offload_model.specs.declared.limits.Limits.{Limits}
@@ -27,15 +27,6 @@ ethernet_for p = 0 ∷ 0 ∷ 0 ∷ 0 ∷ 0 ∷ 0 ∷ 0 ∷ 0 ∷ 0 ∷ 0 ∷ 0 �
 abbrev pub in_frame : Link → ℕ → ℕ
 in_frame Ethernet n = n
 in_frame RawIp n = n + 14
-
--- and a length in the packet, of one in the frame
-abbrev pub in_packet : Link → ℕ → ℕ
-in_packet Ethernet n = n
-in_packet RawIp n = n - 14
-
-abbrev pub bytes_in_packet : Link → List ℕ → List ℕ
-bytes_in_packet Ethernet frame = frame
-bytes_in_packet RawIp frame = drop 14 frame
 
 abbrev pub frame_on : Link → List ℕ → List ℕ
 frame_on Ethernet bytes = bytes
