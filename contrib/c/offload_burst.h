@@ -144,9 +144,10 @@ uint32_t offload_fill_sums(uint8_t *frame, size_t length);
 
 /* ---- packets without an Ethernet header that are to be cut
  *
- * What merges them where they lie stands above (OFFLOAD_LINK_RAW). What cuts, fills in sums and tells causes wants frames: a packet is read 14 bytes behind the front of its room, an Ethernet header is written there, and these are a frame like any other. What comes of
- * it is written without its first 14 bytes again: of a run {headers + 14, headers_length - 14}, and of a frame that is alone {bytes + 14, length -
- * 14}; of a segment {headers + 14, headers_length - 14}. No byte of a packet is moved. `ip_at` and `leaf_at` count the 14 bytes. */
+ * What merges them where they lie stands above (OFFLOAD_LINK_RAW). What cuts, fills in sums and tells causes wants frames: a packet is read 14
+ * bytes behind the front of its room, an Ethernet header is written there, and these are a frame like any other. What comes of it is written
+ * without its first 14 bytes again: of a run {headers + 14, headers_length - 14}, and of a frame that is alone {bytes + 14, length - 14}; of a
+ * segment {headers + 14, headers_length - 14}. No byte of a packet is moved. `ip_at` and `leaf_at` count the 14 bytes. */
 
 /* Writes an Ethernet header into the first 14 bytes of a frame, for the IP packet behind them: addresses of zeros, and the type of its version. No
  * other byte is written. USAGE where there are no bytes behind, or their version is neither 4 nor 6: the frame is as it was. */
