@@ -14,7 +14,8 @@
 //! - `untouched`: but on 0 nothing is written, and `count` is 0. `sizes`: the lists stay as long as they are.
 //!
 //! The same of [`offload_gro_burst_link`], for packets that begin as a number of link types says: with Ethernet (1) or
-//! with IP (101), which are merged as with an Ethernet header in front and told without it. Another number is answered 2.
+//! with IP (101), which are merged as with an Ethernet header in front and told without it. Another number is answered
+//! 2.
 //!
 //! Of engines, which [`offload_gro_new`] and [`offload_gro_new_link`] make and [`offload_gro_free`] ends:
 //!
@@ -47,11 +48,10 @@
 //!
 //! Its parts: `exports` (a burst), `kept` (engines), `handle` (an engine by its address), `cuts` (the inverse), `laws`
 //! (both together), `causes`, `front` (an Ethernet header in front of a packet), `limits` (two numbers), `links` and
-//! `linked` (bursts by link), `codes`. `specs/Bounds.antt` says which limits two numbers are,
-//! `specs/LinkNumbers.antt` which link one is, `specs/Made.antt` what holds of an engine where there is one,
-//! `specs/Cutting.antt` what cutting answers, `specs/Inverse.antt` what comes of a merged frame that is cut,
-//! `specs/Causes.antt` the numbers of causes, `specs/Front.antt` the Ethernet headers that are written; what its address
-//! owns is `heap_owns_any` of `on_heap`.
+//! `linked` (bursts by link), `codes`. `specs/Bounds.antt` says which limits two numbers are, `specs/LinkNumbers.antt`
+//! which link one is, `specs/Made.antt` what holds of an engine where there is one, `specs/Cutting.antt` what cutting
+//! answers, `specs/Inverse.antt` what comes of a merged frame that is cut, `specs/Causes.antt` the numbers of causes,
+//! `specs/Front.antt` the Ethernet headers that are written; what its address owns is `heap_owns_any` of `on_heap`.
 //!
 //! Tests: `contrib/c/burst_check`.
 //!

@@ -14,8 +14,8 @@ use frame_runs::Lent;
 use std::alloc::Global;
 
 /// Merges packets that begin as `link` says, as [`offload_gro_burst`] does: 1 of Ethernet frames, and 101 where they
-/// begin with IP, as those of a TUN device. These are merged as if each had an Ethernet header in front, and nothing that
-/// is told has that: headers begin with IP, and places and lengths, that of `bytes` too, count from there.
+/// begin with IP, as those of a TUN device. These are merged as if each had an Ethernet header in front, and nothing
+/// that is told has that: headers begin with IP, and places and lengths, that of `bytes` too, count from there.
 ///
 /// 0, 7, 9 as there; 2 also for another link.
 ///

@@ -40,7 +40,8 @@ abbrev pub Refuses : Link → Limits → List Lent → ℕ → ℕ → Refused �
 Refuses link limits frames next runs Usage = AreLawful link limits frames → ⊥
 Refuses link limits frames next runs Full = ⊥
 Refuses link limits frames next runs NoMemory = AreLawful link limits frames × HasRoom (length frames) next runs
-Refuses link limits frames next runs NoRoom = AreLawful link limits frames × ((next < length frames) ⊎ (runs < length frames))
+Refuses link limits frames next runs NoRoom =
+    AreLawful link limits frames × ((next < length frames) ⊎ (runs < length frames))
 
 -- what is said of a run
 pub record Says (r : BurstRun) (run : List Packet) : Type 0 where
@@ -89,7 +90,8 @@ frames_of ps next r = map (packet_at ps) (indices_of next r)
 
 -- the runs are the maximal mergeable runs within limits of each flow, in the order of their first frames, and what is
 -- said of each is so; each frame is in one of them, once
-pub record Merges (link : Link) (limits : Limits) (ps : List Packet) (next : List ℕ) (told : List BurstRun) : Type 0 where
+pub record Merges (link : Link) (limits : Limits) (ps : List Packet) (next : List ℕ) (told : List BurstRun)
+    : Type 0 where
   pub runs : map (frames_of ps next) told ≡ runs_within limits ps
   pub each : AllByRecursion (λ r. SaysOn link r (frames_of ps next r)) told
   pub once : AreSharedOut (length ps) (map (indices_of next) told)

@@ -101,7 +101,8 @@ impl BurstEngine {
         requires room { length frames.now ≤ self.old.limit }
         ensures begun { IsTrue result → Awaits (map (framed self.old.link) frames.now) self.new }
         ensures none { IsTrue result ⊎ (self.old.received ≡ 0) }
-        ensures same { (self.new.received ≡ self.old.received) × IsFor self.old.link self.old.limit self.old.limits self.new }
+        ensures same { (self.new.received ≡ self.old.received)
+            × IsFor self.old.link self.old.limit self.old.limits self.new }
     {
         if self.received > 0 {
             return true;
@@ -182,7 +183,8 @@ impl BurstEngine {
     ) -> Result<usize, Refused>
         requires holds { HoldsAll frames.now self.old }
         ensures merges { IfOk result
-            (λ count. Merges self.old.link self.old.limits (map (framed self.old.link) frames.now) next.new (take count runs.new)) }
+            (λ count. Merges self.old.link self.old.limits (map (framed self.old.link) frames.now) next.new
+            (take count runs.new)) }
         ensures back { IfOk result (λ count. AllByRecursion
             (λ r. ComesBack (frames_of (map (framed self.old.link) frames.now) next.new r)) (take count runs.new)) }
         ensures none { IfOk result (λ _. Holds [] self.new) }
@@ -216,7 +218,8 @@ impl BurstEngine {
         runs: &mut [BurstRun],
     ) -> Result<usize, Refused>
         ensures merges { IfOk result
-            (λ count. Merges self.old.link self.old.limits (map (framed self.old.link) frames.now) next.new (take count runs.new)) }
+            (λ count. Merges self.old.link self.old.limits (map (framed self.old.link) frames.now) next.new
+            (take count runs.new)) }
         ensures back { IfOk result (λ count. AllByRecursion
             (λ r. ComesBack (frames_of (map (framed self.old.link) frames.now) next.new r)) (take count runs.new)) }
         ensures refused { IfErr result (RefusesBurst frames.now self.old (length next.old) (length runs.old)) }

@@ -18,9 +18,9 @@ use crate::places::places_of;
 use frame_runs::{Engine, Frame, Run};
 use offload_model::{Limits, runs_come_back};
 
-/// What a run of frames comes to. Its frame, or its packet where these have no Ethernet header, is the first `headers_length` bytes of `headers`, and behind them what
-/// stands behind as many bytes of each of its frames, one after the other; of a frame that is alone `headers_length` is
-/// 0.
+/// What a run of frames comes to. Its frame, or its packet where these have no Ethernet header, is the first
+/// `headers_length` bytes of `headers`, and behind them what stands behind as many bytes of each of its frames, one
+/// after the other; of a frame that is alone `headers_length` is 0.
 #[repr(C)]
 #[derive(Clone, Copy)]
 pub struct BurstRun {
@@ -32,7 +32,7 @@ pub struct BurstRun {
     pub m: u32,
     /// Bytes of the merged frame.
     pub length: u32,
-    /// Bytes of its headers, 42 to 200; 0 of one frame.
+    /// Bytes of its headers, 42 to 200, or 28 to 186 without Ethernet's; 0 of one frame.
     pub headers_length: u32,
     /// The fold of the pseudo header that the TCP or UDP header's sum begins with, not complemented; 0 of one frame.
     pub pseudo: u16,
