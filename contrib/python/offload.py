@@ -173,7 +173,7 @@ def _loaded() -> ctypes.CDLL:
     library.offload_queue_rss.argtypes, library.offload_queue_rss.restype = [data, size, data, data, size, number], number
     frames, runs, engine = ctypes.POINTER(_Frame), ctypes.POINTER(_Run), ctypes.POINTER(_Engine)
     indices = ctypes.POINTER(ctypes.c_uint32)
-    library.offload_gro_new.argtypes, library.offload_gro_new.restype = [engine, number, number, number], number
+    library.offload_gro_new_link.argtypes, library.offload_gro_new_link.restype = [engine, number, number, number, number], number
     library.offload_gro_receive.argtypes, library.offload_gro_receive.restype = [engine, frames, size], number
     library.offload_gro_flush.argtypes = [engine, frames, size, indices, size, runs, size, count]
     library.offload_gro_flush.restype = number
@@ -363,9 +363,14 @@ class Run(NamedTuple):
         return b"".join(self.slices())
 
 
+# What packets begin with, by the numbers of captures' link types.
+_LINKS = {"ethernet": 1, "raw": 101}
+
+
 class Gro:
-    """An engine that merges at most `frames` (65,535 or fewer) Ethernet frames between two flushes, in runs of at most `segs` whose merged frame
-    has at most `length` bytes; 0 is no bound.
+    """An engine that merges at most `frames` (65,535 or fewer) frames between two flushes, in runs of at most `segs` whose merged frame has at
+    most `length` bytes; 0 is no bound. They begin with an Ethernet header, or by `link="raw"` with IP, as those of a TUN device; so do the headers
+    that are told then.
 
     with offload.Gro(64) as gro:
         for run in gro.merge(frames):
@@ -374,10 +379,12 @@ class Gro:
     Frames are bytes, or anything with their protocol, and stay as they are until they are flushed. Raises UsageError and NoMemoryError.
     """
 
-    def __init__(self, frames: int = 64, segs: int = 4096, length: int = 0) -> None:
+    def __init__(self, frames: int = 64, segs: int = 4096, length: int = 0, link: str = "ethernet") -> None:
         self._engine = _Engine()
-        numbers = _number("frames", frames), _number("segs", segs), _number("length", length)
-        _checked(_library.offload_gro_new(self._engine, *numbers), "frames or segs are out of their range")
+        if link not in _LINKS:
+            raise UsageError(f"no link {link!r}: ethernet or raw")
+        numbers = _LINKS[link], _number("frames", frames), _number("segs", segs), _number("length", length)
+        _checked(_library.offload_gro_new_link(self._engine, *numbers), "frames or segs are out of their range")
         self._limit, self._kept = frames, []
         self._frames, self._next, self._runs = (_Frame * frames)(), (ctypes.c_uint32 * frames)(), (_Run * frames)()
 
