@@ -4,6 +4,8 @@
 
     merged = offload.merge(capture, queues=4, taps=1)    # of link type 1; the options are those of `offload merge`
     packets = offload.segment(merged)                    # of link type 1 again: each flow's packets, in order and byte for byte
+    for record in offload.records(merged):               # what each record says, and its frame, uncopied
+        print(record.packets, record.segment, record.frame)
     offload.queue(frame, 4)                              # the receive queue of a frame's flow
 
     with offload.Gro(64) as gro:                         # frames of Ethernet, as they come: bytes, or anything with their protocol
@@ -32,7 +34,7 @@ from collections.abc import Callable, Iterable, Iterator, Sequence
 from typing import NamedTuple, Optional, Union
 
 __all__ = ["ENOUGH_BLOCKS", "Gro", "MalformedError", "NoMemoryError", "OffloadError", "PoolEmptyError", "Run", "UsageError"]
-__all__ += ["BlocksError", "NoRoomError", "NotSoleError", "Packet", "Pool", "cut", "merge", "queue", "segment", "why"]
+__all__ += ["BlocksError", "NoRoomError", "NotSoleError", "Packet", "Pool", "Record", "cut", "merge", "queue", "records", "segment", "why"]
 
 Bytes = Union[bytes, bytearray, memoryview]
 
@@ -46,6 +48,12 @@ BLOCKS_OF_A_RECORD = 131
 ETHERNET_LINK, OFFLOAD_LINK = 1, 147
 ORDERS = {b"\xd4\xc3\xb2\xa1": "<", b"\x4d\x3c\xb2\xa1": "<", b"\xa1\xb2\xc3\xd4": ">", b"\xa1\xb2\x3c\x4d": ">"}
 FILE_HEAD, RECORD_HEAD, LEAST_OFFLOAD_HEAD, MOST_OFFLOAD_HEAD = 24, 16, 12, 16
+_KINDS = ("single", "merged", "window")
+_HEADS = {1: struct.Struct(">xBHHBBI"), 2: struct.Struct(">xBBBIII")}  # of each version
+_HEAD_NAMES = {
+    1: ("kind", "packets", "segment", "modes", "lane", "number"),
+    2: ("kind", "modes", "lane", "packets", "segment", "number"),
+}
 MOST_FRAME, MOST_ORIGINAL, MOST_RECORDS = 262144, 2**31 - 1, 2**32
 
 
@@ -285,6 +293,40 @@ def segment(capture: Bytes, *, blocks: int = BLOCKS_OF_A_RECORD) -> bytes:
     if status in (MALFORMED, POOL_EMPTY):
         raise _end_of_segments(data, written, blocks)
     return _answer(status, written)
+
+
+class Record(NamedTuple):
+    """A record of an offload capture. `kind` is single, merged or window; of a merged one `packets` is how many, each with `segment` bytes of payload
+    but the last, which may have fewer. `lane` is its queue, of a window its tap; `number` is that of its first packet. Its time is `seconds` and
+    `fraction`, as the capture counts that. `frame` is a view of the capture; before it was cut short it had `original` bytes."""
+
+    kind: str
+    packets: int
+    segment: int
+    modes: int
+    lane: int
+    number: int
+    seconds: int
+    fraction: int
+    original: int
+    frame: memoryview
+
+
+def records(capture: Bytes) -> Iterator[Record]:
+    """The records of a capture of link type 147, in order, of either version. Raises MalformedError behind the last whole record."""
+    data = memoryview(capture).cast("B")
+    for found in _walk(data, OFFLOAD_LINK):
+        if isinstance(found, _Fault):
+            raise MalformedError(*found, b"")
+        at = found.offset + RECORD_HEAD
+        if len(data) - at >= found.captured:
+            seconds, fraction, _, original = struct.unpack_from(ORDERS[bytes(data[:4])] + "IIII", data, found.offset)
+            head = _HEADS.get(data[at])
+            if head is None or data[at + 1] >= len(_KINDS) or found.captured < head.size:
+                raise MalformedError("BadOffload", found.offset, found.number, b"")
+            said = dict(zip(_HEAD_NAMES[data[at]], head.unpack_from(data, at)))
+            frame = data[at + head.size : at + found.captured]
+            yield Record(_KINDS[said.pop("kind")], **said, seconds=seconds, fraction=fraction, original=original - head.size, frame=frame)
 
 
 def queue(frame: Bytes, queues: int, *, rss: Union[Bytes, str, None] = None, table: Optional[Sequence[int]] = None) -> int:
@@ -632,8 +674,8 @@ class _Fault(NamedTuple):
     record: int
 
 
-def _head_fault(data: bytes, link: int) -> Optional[_Fault]:
-    order = ORDERS.get(data[:4])
+def _head_fault(data: Bytes, link: int) -> Optional[_Fault]:
+    order = ORDERS.get(bytes(data[:4]))
     if len(data) < FILE_HEAD:
         return _Fault("ShortHeader", 0, 0)
     if order is None:
@@ -643,13 +685,13 @@ def _head_fault(data: bytes, link: int) -> Optional[_Fault]:
     return None if struct.unpack_from(order + "I", data, 20)[0] == link else _Fault("BadLinkType", 20, 0)
 
 
-def _walk(data: bytes, link: int) -> Iterator[Union[_Record, _Fault]]:
+def _walk(data: Bytes, link: int) -> Iterator[Union[_Record, _Fault]]:
     """The records whose headers are taken, up to a fault of a header, or of the bytes behind one."""
     head = _head_fault(data, link)
     if head:
         yield head
         return
-    lengths = struct.Struct(ORDERS[data[:4]] + "II")
+    lengths = struct.Struct(ORDERS[bytes(data[:4])] + "II")
     least, more = (LEAST_OFFLOAD_HEAD, MOST_OFFLOAD_HEAD) if link == OFFLOAD_LINK else (0, 0)
     number, at = 0, FILE_HEAD
     while at < len(data):

@@ -10,7 +10,7 @@ import io
 import offload
 from scapy.layers.inet import IP, TCP
 from scapy.layers.l2 import Ether
-from scapy.utils import PcapReader, PcapWriter, RawPcapReader
+from scapy.utils import PcapReader, PcapWriter
 
 
 def capture_of(packets):
@@ -30,9 +30,8 @@ segments = [
     for i in range(10)
 ]
 merged = offload.merge(capture_of(segments))
-for record, _ in RawPcapReader(io.BytesIO(merged)):
-    count = int.from_bytes(record[4:8], "big")
-    print(f"{count} packets: {Ether(record[16:]).summary()}, {len(record) - 16} bytes")
+for record in offload.records(merged):
+    print(f"{record.packets} packets: {Ether(record.frame).summary()}, {len(record.frame)} bytes")
 
 cut = list(PcapReader(io.BytesIO(offload.segment(merged))))
 assert [bytes(packet) for packet in cut] == [bytes(packet) for packet in segments]
