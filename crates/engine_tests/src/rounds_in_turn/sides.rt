@@ -216,8 +216,8 @@ fn in_turn<R: Wait + Abort>(rt: &R, alloc: Global) -> ([Step; 3], Vec<u8>, [u32;
         spares: _,
     } = rounds_of_one(rt, alloc, 3);
     let none = Pool::empty(alloc, 0).expect(rt, "memory");
-    let (read, _none) = read_shelved(rt, &mut intake, &mut reader, none);
-    let round = full(rt, read);
+    let (begun, _none) = read_shelved(rt, &mut intake, &mut reader, none);
+    let round = full(rt, begun);
     let (first, one) = put(rt, alloc, &mut bench, round, &file, &mut sink, 0);
     let (given, put_home) = (intake.home(), one.home());
     let (read, one) = read_shelved(rt, &mut intake, &mut reader, one);
