@@ -27,8 +27,8 @@ check_round-totals-requires g c =
     let ps = read.result.round.packets in
     let keep = read.ensures.same.2 ∙ ap (λ (r : RoundsState). r.keep) c.in_ok-rounds.ensures.made in
     record {
-      worked = may_compare (options_of read.new.self) (map packet_of ps) c.in_ok-worked.worked (c.in_ok-worked.ensures.checked keep) read.ensures.captured
-          (omega (arith, read.ensures.size, read.ensures.budget.1, length-map ps packet_of));
+      worked = may_compare (options_of read.new.self) (map packet_of ps) c.in_ok-worked.worked (c.in_ok-worked.ensures.checked keep) read.ensures.read.captured
+          (omega (arith, read.ensures.read.size, read.ensures.budget.1, length-map ps packet_of));
     }
 
 pub write_totals-requires-clause-within : goal.write_totals-requires-clause-within
@@ -38,5 +38,5 @@ write_totals-requires-clause-within g c =
     let worked = c.in_ok-worked in
     let keep = read.ensures.same.2 ∙ ap (λ (r : RoundsState). r.keep) c.in_ok-rounds.ensures.made in
     let kept = subst (λ (r : RoundsState). IsKeptWorkOf (options_of r) (map packet_of ps) worked.worked) (sym worked.ensures.same) (worked.ensures.checked keep) in
-    let captured = captured_of _ ps read.ensures.captured read.ensures.numbers in
-    (are_small _ _ ps c.in_ok-totals.field-0 worked.ensures.same captured (omega (arith, read.ensures.size, read.ensures.budget.1)) (c.in_ok-totals.ensures.totals (map packet_of ps) kept)).queues
+    let captured = captured_of _ ps read.ensures.read.captured read.ensures.read.numbers in
+    (are_small _ _ ps c.in_ok-totals.field-0 worked.ensures.same captured (omega (arith, read.ensures.read.size, read.ensures.budget.1)) (c.in_ok-totals.ensures.totals (map packet_of ps) kept)).queues
